@@ -1,0 +1,10 @@
+-- The laws of aes. Public are those that a crate above cites.
+pub mod ByteStates
+pub mod Inverse
+pub mod Spread
+pub mod Seams
+pub mod Put
+pub mod Schedule
+mod Columns
+mod Steps
+mod Vectors

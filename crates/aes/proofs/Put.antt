@@ -1,0 +1,75 @@
+-- Bytes put into a list. Assumes nothing.
+use mathlib.Core.Path.{_≡_, refl, sym, ap, ap₂, _∙_}
+use mathlib.Core.List.{List, [], _∷_, _++_, append-assoc, append-nil}
+use Prim.Native.Nat.{ℕ, zero, suc, _+_, _-_, _≤_, _<_}
+use native.Mathlib.Nat.{add-zero, add-assoc}
+use native.Mathlib.Numerals.{add-one, add-two, add-three}
+use native.Mathlib.Omega.{arith}
+use lib.ListN.{length, take, drop, set, getD, length-append, length-take, length-drop, List·getD-append, replicate, drop-of-length-le}
+use lib.Seq.{paste, paste-suc, sets, sets-eq, take-at, drop-at, length-take-le, drop-drop, drop-append-add, getD-append-add, getD-take, getD-drop}
+use Rattle.aes.specs.Bytes.{putAt, wordBytes, stateBytes}
+use Rattle.aes.specs.Words.{wordAt}
+use Rattle.aes.specs.States.{stateAt}
+use Rattle.aes.specs.declared.Word.{Word}
+use Rattle.aes.specs.declared.State.{State}
+
+-- four stores in a row
+pub stores : (l : List ℕ) (i : ℕ) (w : Word) → i + 4 ≤ length l
+    → set (set (set (set l i (w .r0)) (i + 1) (w .r1)) (i + 2) (w .r2)) (i + 3) (w .r3) ≡ putAt l i (wordBytes w)
+unfolding putAt
+stores l i w h = rw (add-one, add-two, add-three) (sets-eq (wordBytes w) l i h)
+
+pub length-putAt : (l : List ℕ) (i : ℕ) (xs : List ℕ) → i + length xs ≤ length l → length (putAt l i xs) ≡ length l
+unfolding putAt
+length-putAt l i xs h = simp (length-append, length-take, length-drop) (omega arith)
+
+-- bytes put after bytes that were put
+pub putAt-putAt : (l : List ℕ) (i : ℕ) (xs ys : List ℕ) (j : ℕ) → j ≡ i + length xs → j + length ys ≤ length l
+    → putAt (putAt l i xs) j ys ≡ putAt l i (xs ++ ys)
+unfolding putAt
+putAt-putAt l i xs ys j e h =
+    let P : List ℕ = take i l ++ xs in
+    let D : List ℕ = drop (i + length xs) l in
+    let p : length P ≡ j = simp (length-append, length-take) (omega arith) in
+    let m : i + length xs + length ys ≡ i + length (xs ++ ys) = omega (arith, length-append xs ys) in
+    ap₂ (λ (u v : List ℕ). (u ++ ys) ++ v) (take-at P D j p)
+    (ap (λ (n : ℕ). drop (n + length ys) (P ++ D)) (sym p) ∙ drop-append-add P D (length ys) ∙ drop-drop (length ys) (i + length xs) l
+    ∙ ap (λ (n : ℕ). drop n l) m)
+    ∙ ap (λ (u : List ℕ). u ++ drop (i + length (xs ++ ys)) l) (append-assoc (take i l) xs ys)
+
+-- four words put in a row are a state
+pub put-four : (l : List ℕ) (i : ℕ) (s : State) (l₁ l₂ l₃ l₄ : List ℕ) → i + 16 ≤ length l → l₁ ≡ putAt l i (wordBytes (s .c0)) → l₂ ≡ putAt l₁ (i + 4) (wordBytes (s .c1))
+    → l₃ ≡ putAt l₂ (i + 8) (wordBytes (s .c2)) → l₄ ≡ putAt l₃ (i + 12) (wordBytes (s .c3)) → l₄ ≡ putAt l i (stateBytes s)
+unfolding stateBytes
+put-four l i s l₁ l₂ l₃ l₄ h e₁ e₂ e₃ e₄ =
+    let w₀ : List ℕ = wordBytes (s .c0) in
+    let w₁ : List ℕ = wordBytes (s .c1) in
+    let w₂ : List ℕ = wordBytes (s .c2) in
+    let w₃ : List ℕ = wordBytes (s .c3) in
+    let f₂ : l₂ ≡ putAt l i (w₀ ++ w₁) = e₂ ∙ ap (λ (x : List ℕ). putAt x (i + 4) w₁) e₁ ∙ putAt-putAt l i w₀ w₁ (i + 4) refl (omega arith) in
+    let f₃ : l₃ ≡ putAt l i (w₀ ++ w₁ ++ w₂) = e₃ ∙ ap (λ (x : List ℕ). putAt x (i + 8) w₂) f₂ ∙ putAt-putAt l i (w₀ ++ w₁) w₂ (i + 8) refl (omega arith) in
+    e₄ ∙ ap (λ (x : List ℕ). putAt x (i + 12) w₃) f₃ ∙ putAt-putAt l i (w₀ ++ w₁ ++ w₂) w₃ (i + 12) refl (omega arith)
+
+-- a block in an array of its own
+pub alone : (s : State) (t : List ℕ) → t ≡ putAt (replicate 16 0) 0 (stateBytes s) → t ≡ stateBytes s
+unfolding putAt stateBytes
+alone s t e = e
+
+-- a copy, element by element
+pub paste-turn : (d : List ℕ) (at : ℕ) (s l : List ℕ) (j : ℕ) → at + j < length d → j < length s → l ≡ paste d at s j
+    → set l (at + j) (getD s j 0) ≡ paste d at s (j + 1)
+paste-turn d at s l j hd hs e =
+    ap (λ (x : List ℕ). set x (at + j) (getD s j 0)) e ∙ paste-suc d at s j 0 hd hs ∙ ap (λ (k : ℕ). paste d at s k) (sym (add-one j))
+
+-- a copy to the end
+pub paste-end : (d : List ℕ) (at : ℕ) (s t l : List ℕ) (j : ℕ) → l ≡ paste d at t j → j ≡ length d - at → at ≤ length d → t ≡ s → l ≡ take at d ++ take (length d - at) s
+paste-end d at s t l j e h g f =
+    let z : length d ≤ at + j = omega arith in
+    e ∙ ap (λ (x : List ℕ). take at d ++ take j t ++ x) (drop-of-length-le d z) ∙ append-nil (take at d ++ take j t)
+    ∙ ap₂ (λ (k : ℕ) (x : List ℕ). take at d ++ take k x) h f
+
+pub take-putAt : (l : List ℕ) (i : ℕ) (xs : List ℕ) (n : ℕ) → n ≡ i + length xs → i ≤ length l → take n (putAt l i xs) ≡ take i l ++ xs
+unfolding putAt
+take-putAt l i xs n e h =
+    let p : length (take i l ++ xs) ≡ n = simp (length-append, length-take) (omega arith) in
+    take-at (take i l ++ xs) (drop (i + length xs) l) n p

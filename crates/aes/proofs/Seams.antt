@@ -1,0 +1,54 @@
+-- Words and states of a list that is made of two. Assumes nothing.
+use mathlib.Core.Path.{_≡_, refl, sym, ap, ap₂, _∙_}
+use mathlib.Core.List.{List, [], _∷_, _++_, append-assoc, append-nil}
+use Prim.Native.Nat.{ℕ, zero, suc, _+_, _*_, _-_, _≤_, _<_}
+use native.Mathlib.Nat.{mul-suc}
+use native.Mathlib.Numerals.{add-one}
+use native.Mathlib.Omega.{arith}
+use lib.ListN.{length, take, drop, getD, length-append, drop-of-length-le, List·getD-append}
+use lib.Seq.{take-at, drop-drop, drop-append-add, getD-append-add, getD-drop}
+use Rattle.aes.specs.Bytes.{putAt, wordBytes, stateBytes}
+use Rattle.aes.specs.Words.{wordAt}
+use Rattle.aes.specs.States.{stateAt}
+use Rattle.aes.specs.declared.Word.{Word}
+use Rattle.aes.specs.declared.State.{State}
+
+-- ---- a list whose first bytes have been replaced by as many others, seam after seam
+
+module _ (A l : List ℕ) (n : ℕ) (e : length A ≡ n) where
+  getD-seam : (j : ℕ) → n ≤ j → getD (A ++ drop n l) j 0 ≡ getD l j 0
+  getD-seam j h =
+      let m : length A + (j - n) ≡ j = omega arith in
+      let m′ : n + (j - n) ≡ j = omega arith in
+      ap (λ (k : ℕ). getD (A ++ drop n l) k 0) (sym m) ∙ getD-append-add A (drop n l) (j - n) 0 ∙ getD-drop n l (j - n) 0 ∙ ap (λ (k : ℕ). getD l k 0) m′
+
+  pub word-seam : (j : ℕ) → n ≤ j → wordAt (A ++ drop n l) j ≡ wordAt l j
+  unfolding wordAt
+  word-seam j h = cc (getD-seam j h, getD-seam (j + 1) (omega arith), getD-seam (j + 2) (omega arith), getD-seam (j + 3) (omega arith))
+
+  pub seam-at : (j : ℕ) → n ≤ j → stateAt (A ++ drop n l) j ≡ stateAt l j
+  unfolding stateAt
+  seam-at j h = cc (word-seam j h, word-seam (j + 4) (omega arith), word-seam (j + 8) (omega arith), word-seam (j + 12) (omega arith))
+
+  state-seam : stateAt (A ++ drop n l) n ≡ stateAt l n
+  state-seam = seam-at n (omega arith)
+
+  pub put-seam : (xs : List ℕ) → putAt (A ++ drop n l) n xs ≡ (A ++ xs) ++ drop (n + length xs) l
+  unfolding putAt
+  put-seam xs =
+      ap₂ (λ (u v : List ℕ). (u ++ xs) ++ v) (take-at A (drop n l) n e)
+      (ap (λ (k : ℕ). drop (k + length xs) (A ++ drop n l)) (sym e) ∙ drop-append-add A (drop n l) (length xs) ∙ drop-drop (length xs) n l)
+
+-- a word that lies in the first of two lists
+pub front : (A D : List ℕ) (j : ℕ) → j + 4 ≤ length A → wordAt (A ++ D) j ≡ wordAt A j
+unfolding wordAt
+front A D j h =
+    let h₀ : j < length A = omega arith in
+    let h₁ : j + 1 < length A = omega arith in
+    let h₂ : j + 2 < length A = omega arith in
+    let h₃ : j + 3 < length A = omega arith in
+    cc (List·getD-append A D 0 j h₀, List·getD-append A D 0 (j + 1) h₁, List·getD-append A D 0 (j + 2) h₂, List·getD-append A D 0 (j + 3) h₃)
+
+pub length-state : (s : State) → length (stateBytes s) ≡ 16
+unfolding stateBytes
+length-state s = refl

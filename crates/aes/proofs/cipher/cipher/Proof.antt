@@ -1,0 +1,69 @@
+use Prim.Native.Nat.{ℕ, _+_, _-_, _≤_, _<_}
+use native.Mathlib.Omega.{arith}
+use mathlib.Core.Path.{_≡_, refl}
+use Rattle.aes.specs.Cipher.{roundKey, rounds}
+use Rattle.aes.proofs.Steps.{rounds-next, cipher-by}
+use borrow.Author.Needs.{needs}
+use Rattle.aes.proofs.cipher.cipher.Statement.{statement}
+use Rattle.aes.proofs.cipher.cipher.Tie as tie
+
+abbrev Inv-loop : tie.InvT-loop
+Inv-loop sbox w nr t₀ i₀ t i = (i ≤ nr - 1) × (t ≡ rounds w i t₀)
+
+abbrev μ-loop : tie.MeasureT-loop
+μ-loop sbox w nr t₀ i₀ t i = nr - i
+
+load-requires : tie.Need-load-requires Inv-loop μ-loop
+load-requires c κs = search needs
+
+add-round-key-requires : tie.Need-add-round-key-requires Inv-loop μ-loop
+add-round-key-requires c κs = search needs
+
+loop-holds : tie.Need-loop-holds Inv-loop μ-loop
+unfolding rounds
+loop-holds c = (omega arith, refl)
+
+add-loop : tie.Need-add-loop Inv-loop μ-loop
+add-loop c = search needs
+
+add-round : tie.Need-add-round Inv-loop μ-loop
+add-round c = search needs
+
+round-requires : tie.Need-round-requires Inv-loop μ-loop
+round-requires c κs = search needs
+
+add-i : tie.Need-add-i Inv-loop μ-loop
+add-i c = search needs
+
+loop-less : tie.Need-loop-less Inv-loop μ-loop
+loop-less c = search needs
+
+loop-again : tie.Need-loop-again Inv-loop μ-loop
+loop-again c = (omega arith, rw rounds-next (cc))
+
+last-round-requires : tie.Need-last-round-requires Inv-loop μ-loop
+last-round-requires c κs = search needs
+
+returns : tie.Need-returns Inv-loop μ-loop
+unfolding roundKey
+returns c =
+    cipher-by _ _ _ _ _ _ _ _ (omega arith) (c .before .before .before .before .load .ensures) (c .before .before .before .add-round-key .ensures)
+    (c .before .before .loop .inv .1) (c .last-round .ensures)
+
+pub cipher-spec : {M : Type 1} → statement M
+cipher-spec =
+    tie.close
+    (tie.spec
+    Inv-loop
+    μ-loop
+    load-requires
+    add-round-key-requires
+    loop-holds
+    add-loop
+    add-round
+    round-requires
+    add-i
+    loop-less
+    loop-again
+    last-round-requires
+    returns)

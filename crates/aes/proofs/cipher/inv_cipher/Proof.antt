@@ -1,0 +1,64 @@
+use Prim.Native.Nat.{ℕ, _+_, _-_, _≤_, _<_}
+use native.Mathlib.Omega.{arith}
+use mathlib.Core.Path.{_≡_, refl}
+use Rattle.aes.specs.Cipher.{roundKey, invRounds}
+use Rattle.aes.proofs.Steps.{invRounds-turn, invCipher-by}
+use borrow.Author.Needs.{needs}
+use Rattle.aes.proofs.cipher.inv_cipher.Statement.{statement}
+use Rattle.aes.proofs.cipher.inv_cipher.Tie as tie
+
+abbrev Inv-loop : tie.InvT-loop
+Inv-loop inv-sbox w nr t₀ i₀ t i = (i ≤ nr) × (invRounds w (i - 1) t ≡ invRounds w (nr - 1) t₀)
+
+abbrev μ-loop : tie.MeasureT-loop
+μ-loop inv-sbox w nr t₀ i₀ t i = i
+
+mul-load : tie.Need-mul-load Inv-loop μ-loop
+mul-load c = search needs
+
+load-requires : tie.Need-load-requires Inv-loop μ-loop
+load-requires c κs = search needs
+
+add-round-key-requires : tie.Need-add-round-key-requires Inv-loop μ-loop
+add-round-key-requires c κs = search needs
+
+loop-holds : tie.Need-loop-holds Inv-loop μ-loop
+loop-holds c = (omega arith, refl)
+
+sub-i : tie.Need-sub-i Inv-loop μ-loop
+sub-i c = search needs
+
+inv-round-requires : tie.Need-inv-round-requires Inv-loop μ-loop
+inv-round-requires c κs = search needs
+
+loop-less : tie.Need-loop-less Inv-loop μ-loop
+loop-less c = search needs
+
+loop-again : tie.Need-loop-again Inv-loop μ-loop
+loop-again c = (omega arith, invRounds-turn _ _ _ _ _ (omega arith) (c .inv-round .ensures) (c .before .before .loop .inv .1))
+
+inv-last-round-requires : tie.Need-inv-last-round-requires Inv-loop μ-loop
+inv-last-round-requires c κs = search needs
+
+returns : tie.Need-returns Inv-loop μ-loop
+unfolding roundKey
+returns c =
+    invCipher-by _ _ _ _ _ _ _ _ (omega arith) (c .before .before .before .before .load .ensures) (c .before .before .before .add-round-key .ensures)
+    (c .before .before .loop .inv .1) (c .inv-last-round .ensures)
+
+pub inv-cipher-spec : {M : Type 1} → statement M
+inv-cipher-spec =
+    tie.close
+    (tie.spec
+    Inv-loop
+    μ-loop
+    mul-load
+    load-requires
+    add-round-key-requires
+    loop-holds
+    sub-i
+    inv-round-requires
+    loop-less
+    loop-again
+    inv-last-round-requires
+    returns)

@@ -1,0 +1,41 @@
+use Rattle.aes.specs.KeyExpansion.{xPower}
+use Rattle.aes.proofs.Schedule.{xPower-next}
+use Prim.Native.Nat.{ℕ, _+_, _*_, _≤_, _<_, _-_}
+use native.Mathlib.Omega.{arith}
+use mathlib.Core.Path.{_≡_, refl, sym, ap, ap₂, _∙_}
+use lib.ListN.{length, getD}
+use borrow.Author.Needs.{needs}
+use Rattle.aes.proofs.key_expansion.x_power.Statement.{statement}
+use Rattle.aes.proofs.key_expansion.x_power.Tie as tie
+
+abbrev Inv-loop : tie.InvT-loop
+Inv-loop j b₀ i₀ b i = (i ≤ j) × (b ≡ xPower i)
+
+abbrev μ-loop : tie.MeasureT-loop
+μ-loop j b₀ i₀ b i = j - i
+
+loop-holds : tie.Need-loop-holds Inv-loop μ-loop
+unfolding xPower
+loop-holds c = (omega arith, refl)
+
+x-times-requires : tie.Need-x-times-requires Inv-loop μ-loop
+x-times-requires c κs = search needs
+
+add-i : tie.Need-add-i Inv-loop μ-loop
+add-i c = omega arith
+
+loop-less : tie.Need-loop-less Inv-loop μ-loop
+loop-less c = omega arith
+
+loop-again : tie.Need-loop-again Inv-loop μ-loop
+loop-again c = (omega arith, rw xPower-next (cc))
+
+returns : tie.Need-returns Inv-loop μ-loop
+returns c =
+    let e : c .before .loop .i ≡ c .before .before .args .j = omega arith in
+    cc
+
+pub x-power-spec : {M : Type 1} → statement M
+x-power-spec =
+    tie.close
+    (tie.spec Inv-loop μ-loop loop-holds x-times-requires add-i loop-less loop-again returns)
