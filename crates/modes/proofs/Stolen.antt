@@ -1,0 +1,122 @@
+-- What the code of ciphertext stealing does is what the definitions say: the end of a text, and the whole. Assumes nothing.
+use mathlib.Core.Path.{_≡_, refl, sym, ap, ap₂, _∙_}
+use mathlib.Core.List.{List, [], _∷_, _++_, append-assoc, append-nil}
+use Prim.Native.Nat.{ℕ, zero, suc, _+_, _-_, _*_, _/_, _≤_, _<_}
+use native.Mathlib.Omega.{arith}
+use borrow.Author.Tests.{lt-ltb, le-ltb}
+use lib.Dec.{ltb}
+use lib.ListN.{length, take, drop, getD, length-append, length-take, length-drop, drop-of-length-le}
+use lib.Seq.{take-at, getD-append-add, getD-drop}
+use Rattle.aes.specs.Words.{wordAt}
+use Rattle.aes.specs.States.{addRoundKey, stateAt}
+use Rattle.aes.specs.Bytes.{putAt, stateBytes}
+use Rattle.aes.specs.Cipher.{invCipher}
+use Rattle.aes.specs.declared.Word.{Word}
+use Rattle.aes.specs.declared.State.{State}
+use Rattle.aes.proofs.Put.{length-putAt, take-putAt}
+use Rattle.aes.proofs.Seams.{length-state, seam-at}
+use Rattle.modes.specs.Walk.{carried, walked}
+use Rattle.modes.specs.Xts.{lowWord, numberBlock}
+use Rattle.modes.specs.Cts.{cbcStep, cbcNext, cbcInvStep, cbcInvNext, lastTwo, invLastTwo, filledWord, filled, cs3Encrypt, cs3Decrypt, pickList, cbcCs3Encrypt, cbcCs3Decrypt}
+use Rattle.modes.proofs.Walks.{Going, going-start, going-turn, going-end, length-walked}
+
+-- zeros are what a block is filled with
+pub stateAt-filled : (l : List ℕ) (i : ℕ) (z : State) → z ≡ numberBlock 0 → filled l i z ≡ stateAt l i
+unfolding stateAt wordAt filled filledWord numberBlock lowWord
+stateAt-filled l i z e = ap (filled l i) e
+
+-- the two stores that end a text
+pub finish-by : (l l₁ l₂ : List ℕ) (i : ℕ) (b a : State) → i + 16 ≤ length l → l₁ ≡ putAt l i (stateBytes b)
+    → l₂ ≡ take (i + 16) l₁ ++ take (length l₁ - (i + 16)) (stateBytes a) → l₂ ≡ take i l ++ (stateBytes b ++ take (length l - (i + 16)) (stateBytes a))
+finish-by l l₁ l₂ i b a h e₁ e₂ =
+    let k : i + 16 ≡ i + length (stateBytes b) = omega (arith, length-state b) in
+    let g : i + length (stateBytes b) ≤ length l = omega (arith, length-state b) in
+    let m : length l₁ ≡ length l = ap length e₁ ∙ length-putAt l i (stateBytes b) g in
+    e₂ ∙ ap₂ (λ (x y : List ℕ). x ++ y) (ap (take (i + 16)) e₁ ∙ take-putAt l i (stateBytes b) (i + 16) k (omega arith)) (ap (λ (k : ℕ). take (k - (i + 16)) (stateBytes a)) m)
+    ∙ append-assoc (take i l) (stateBytes b) (take (length l - (i + 16)) (stateBytes a))
+
+pub tail-by : (w : List ℕ) (n : ℕ) (c : State) (l l₂ : List ℕ) (i : ℕ) (z p q a b : State) → z ≡ numberBlock 0 → p ≡ stateAt l i → a ≡ cbcStep w n c p → q ≡ filled l (i + 16) z
+    → b ≡ cbcStep w n a q → l₂ ≡ take i l ++ (stateBytes b ++ take (length l - (i + 16)) (stateBytes a)) → l₂ ≡ take i l ++ lastTwo w n c l i
+unfolding lastTwo
+tail-by w n c l l₂ i z p q a b ez ep ea eq eb e =
+    let q′ : q ≡ stateAt l (i + 16) = eq ∙ stateAt-filled l (i + 16) z ez in
+    cc
+
+pub untail-by : (w : List ℕ) (n : ℕ) (c : State) (l l₂ : List ℕ) (i : ℕ) (o y a p q : State) → o ≡ stateAt l i → y ≡ invCipher w n o → a ≡ filled l (i + 16) y
+    → p ≡ cbcInvStep w n c a → q ≡ addRoundKey y a → l₂ ≡ take i l ++ (stateBytes p ++ take (length l - (i + 16)) (stateBytes q)) → l₂ ≡ take i l ++ invLastTwo w n c l i
+unfolding invLastTwo
+untail-by w n c l l₂ i o y a p q eo ey ea ep eq e = cc
+
+-- ---- the blocks walked, and the end
+
+module _ (A l : List ℕ) (n : ℕ) (e : length A ≡ n) where
+  getD-seam : (j d : ℕ) → n ≤ j → getD (A ++ drop n l) j d ≡ getD l j d
+  getD-seam j d h =
+      let m : length A + (j - n) ≡ j = omega arith in
+      let m′ : n + (j - n) ≡ j = omega arith in
+      ap (λ (k : ℕ). getD (A ++ drop n l) k d) (sym m) ∙ getD-append-add A (drop n l) (j - n) d ∙ getD-drop n l (j - n) d ∙ ap (λ (k : ℕ). getD l k d) m′
+
+  filledWord-seam : (j : ℕ) (w : Word) → n ≤ j → filledWord (A ++ drop n l) j w ≡ filledWord l j w
+  unfolding filledWord
+  filledWord-seam j w h =
+      cc (getD-seam j (w .r0) h, getD-seam (j + 1) (w .r1) (omega arith), getD-seam (j + 2) (w .r2) (omega arith), getD-seam (j + 3) (w .r3) (omega arith))
+
+  filled-seam : (j : ℕ) (s : State) → n ≤ j → filled (A ++ drop n l) j s ≡ filled l j s
+  unfolding filled
+  filled-seam j s h =
+      cc (filledWord-seam j (s .c0) h, filledWord-seam (j + 4) (s .c1) (omega arith), filledWord-seam (j + 8) (s .c2) (omega arith), filledWord-seam (j + 12) (s .c3) (omega arith))
+
+  module _ (w : List ℕ) (r : ℕ) (t : State) (m : length (A ++ drop n l) ≡ length l) where
+    tail-seam : lastTwo w r t (A ++ drop n l) n ≡ lastTwo w r t l n
+    unfolding lastTwo
+    tail-seam = cc (seam-at A l n e n (omega arith), seam-at A l n e (n + 16) (omega arith))
+
+    untail-seam : invLastTwo w r t (A ++ drop n l) n ≡ invLastTwo w r t l n
+    unfolding invLastTwo
+    untail-seam = cc (seam-at A l n e n (omega arith), filled-seam (n + 16) (invCipher w r (stateAt l n)) (omega arith))
+
+module _ (step : State → State → State) (next : State → State → State → State) (l₀ : List ℕ) (c : State) (end : State → List ℕ → ℕ → List ℕ)
+    (seam : (A : List ℕ) (k : ℕ) (t : State) → length A ≡ k → length (A ++ drop k l₀) ≡ length l₀ → end t (A ++ drop k l₀) k ≡ end t l₀ k) where
+  ended : (l l₂ : List ℕ) (m i : ℕ) (t : State) → i ≡ m → length l ≡ length l₀ → Going step next l₀ c i l t → l₂ ≡ take (16 * m) l ++ end t l (16 * m)
+      → l₂ ≡ walked step next l₀ c m ++ end (carried step next l₀ c m) l₀ (16 * m)
+  ended l l₂ m i t ei el g e =
+      let A : List ℕ = walked step next l₀ c m in
+      let gl : l ≡ A ++ drop (16 * m) l₀ = g .list ∙ ap (λ (k : ℕ). walked step next l₀ c k ++ drop (16 * k) l₀) ei in
+      let gt : t ≡ carried step next l₀ c m = g .carry ∙ ap (carried step next l₀ c) ei in
+      let len : length A ≡ 16 * m = length-walked step next l₀ c m in
+      let fr : take (16 * m) l ≡ A = ap (take (16 * m)) gl ∙ take-at A (drop (16 * m) l₀) (16 * m) len in
+      e ∙ ap₂ (λ (x y : List ℕ). x ++ y) fr
+      (ap₂ (λ (s : State) (x : List ℕ). end s x (16 * m)) gt gl ∙ seam A (16 * m) (carried step next l₀ c m) len (ap length (sym gl) ∙ el))
+
+pub steal-by : (w : List ℕ) (n : ℕ) (c : State) (l₀ l l₂ : List ℕ) (m i : ℕ) (t : State) → i ≡ m → length l ≡ length l₀ → Going (cbcStep w n) cbcNext l₀ c i l t
+    → l₂ ≡ take (16 * m) l ++ lastTwo w n t l (16 * m) → l₂ ≡ cs3Encrypt w n c l₀ m
+unfolding cs3Encrypt
+steal-by w n c l₀ l l₂ m i t ei el g e = ended (cbcStep w n) cbcNext l₀ c (lastTwo w n) (λ A k u ea em. tail-seam A l₀ k ea w n u em) l l₂ m i t ei el g e
+
+pub unsteal-by : (w : List ℕ) (n : ℕ) (c : State) (l₀ l l₂ : List ℕ) (m i : ℕ) (t : State) → i ≡ m → length l ≡ length l₀ → Going (cbcInvStep w n) cbcInvNext l₀ c i l t
+    → l₂ ≡ take (16 * m) l ++ invLastTwo w n t l (16 * m) → l₂ ≡ cs3Decrypt w n c l₀ m
+unfolding cs3Decrypt
+unsteal-by w n c l₀ l l₂ m i t ei el g e = ended (cbcInvStep w n) cbcInvNext l₀ c (invLastTwo w n) (λ A k u ea em. untail-seam A l₀ k ea w n u em) l l₂ m i t ei el g e
+
+-- one block alone
+pub single-by : (step : State → State → State) (next : State → State → State → State) (l l₂ : List ℕ) (c p o : State) → length l ≡ 16 → p ≡ stateAt l 0 → o ≡ step c p
+    → l₂ ≡ putAt l 0 (stateBytes o) → l₂ ≡ walked step next l c 1
+single-by step next l l₂ c p o h ep eo el =
+    going-end step next l c 1 l₂ (next c p o) (going-turn step next l c 0 l l₂ c (next c p o) p o (going-start step next l c) ep eo el refl) (omega arith)
+
+-- the cases of the whole
+pub encrypted-long : (w : List ℕ) (n : ℕ) (c : State) (l : List ℕ) → 16 < length l → cbcCs3Encrypt w n c l ≡ cs3Encrypt w n c l ((length l - 17) / 16)
+unfolding cbcCs3Encrypt
+encrypted-long w n c l h = simp (lt-ltb 16 (length l) h)
+
+pub encrypted-one : (w : List ℕ) (n : ℕ) (c : State) (l : List ℕ) → length l ≤ 16 → cbcCs3Encrypt w n c l ≡ walked (cbcStep w n) cbcNext l c 1
+unfolding cbcCs3Encrypt
+encrypted-one w n c l h = simp (le-ltb 16 (length l) h)
+
+pub decrypted-long : (w : List ℕ) (n : ℕ) (c : State) (l : List ℕ) → 16 < length l → cbcCs3Decrypt w n c l ≡ cs3Decrypt w n c l ((length l - 17) / 16)
+unfolding cbcCs3Decrypt
+decrypted-long w n c l h = simp (lt-ltb 16 (length l) h)
+
+pub decrypted-one : (w : List ℕ) (n : ℕ) (c : State) (l : List ℕ) → length l ≤ 16 → cbcCs3Decrypt w n c l ≡ walked (cbcInvStep w n) cbcInvNext l c 1
+unfolding cbcCs3Decrypt
+decrypted-one w n c l h = simp (le-ltb 16 (length l) h)

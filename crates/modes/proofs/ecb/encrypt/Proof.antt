@@ -1,0 +1,69 @@
+use Prim.Native.Nat.{ℕ, _+_, _*_, _-_, _≤_, _<_}
+use native.Mathlib.Omega.{arith}
+use mathlib.Core.Path.{_≡_, refl, sym, _∙_, ap}
+use lib.ListN.{length}
+use Rattle.modes.specs.Xts.{numberBlock}
+use Rattle.modes.proofs.EachBlock.{ecbStep, ecbNext, ecb-walked}
+use Rattle.modes.proofs.Walks.{Going, going-start, going-turn, going-end}
+use borrow.Author.Needs.{needs}
+use Rattle.modes.proofs.ecb.encrypt.Statement.{statement}
+use Rattle.modes.proofs.ecb.encrypt.Tie as tie
+
+abbrev Inv-loop : tie.InvT-loop
+Inv-loop sbox w nr l₀ m i₀ l i = (i ≤ m) × (length l ≡ 16 * m) × Going (ecbStep w nr) ecbNext l₀ (numberBlock 0) i l (numberBlock 0)
+
+abbrev μ-loop : tie.MeasureT-loop
+μ-loop sbox w nr l₀ m i₀ l i = m - i
+
+loop-holds : tie.Need-loop-holds Inv-loop μ-loop
+loop-holds c = (omega arith, omega arith, going-start _ _ _ _)
+
+mul-load : tie.Need-mul-load Inv-loop μ-loop
+mul-load c = search needs
+
+load-requires : tie.Need-load-requires Inv-loop μ-loop
+load-requires c κs = search needs
+
+cipher-requires : tie.Need-cipher-requires Inv-loop μ-loop
+cipher-requires c κs = search needs
+
+mul-store : tie.Need-mul-store Inv-loop μ-loop
+mul-store c = search needs
+
+store-requires : tie.Need-store-requires Inv-loop μ-loop
+store-requires c κs = search needs
+
+add-i : tie.Need-add-i Inv-loop μ-loop
+add-i c = search needs
+
+loop-less : tie.Need-loop-less Inv-loop μ-loop
+loop-less c = search needs
+
+loop-again : tie.Need-loop-again Inv-loop μ-loop
+loop-again c = (omega arith, omega arith, going-turn _ _ _ _ _ _ _ _ _ _ _ (c .before .before .before .before .before .before .before .before .loop .inv .2) (c .before .before .before .before .before .load .ensures) (c .before .before .before .before .cipher .ensures) (c .before .before .store .ensures) refl)
+
+same-length : tie.Need-same-length Inv-loop μ-loop
+same-length c = search needs
+
+returns : tie.Need-returns Inv-loop μ-loop
+returns c =
+    let e : c .before .loop .i ≡ c .before .before .before .before .args .m = omega arith in
+    rw (← e) (going-end _ _ _ _ _ _ _ (c .before .loop .inv .2) (omega arith) ∙ sym (ecb-walked _ _ _ _ _))
+
+pub encrypt-spec : {M : Type 1} → statement M
+encrypt-spec =
+    tie.close
+    (tie.spec
+    Inv-loop
+    μ-loop
+    loop-holds
+    mul-load
+    load-requires
+    cipher-requires
+    mul-store
+    store-requires
+    add-i
+    loop-less
+    loop-again
+    same-length
+    returns)

@@ -1,0 +1,3 @@
+pub mod cts;
+pub mod ecb;
+pub mod xts;
