@@ -1,4 +1,4 @@
--- XTS: opening undoes sealing, for any number of rounds and of blocks; lengths are kept, and what is sealed is bytes. Assumes nothing.
+-- XTS: decryption and encryption undo each other, for any number of rounds and of blocks; lengths are kept, and results are bytes. Assumes nothing.
 use mathlib.Core.Path.{_≡_, refl, sym, ap, ap₂, _∙_}
 use mathlib.Core.List.{List}
 use Prim.Native.Nat.{ℕ, zero, suc, _+_, _*_, _/_, _%_, _≤_, _<_}
@@ -12,7 +12,7 @@ use Rattle.aes.specs.declared.Word.{Word}
 use Rattle.aes.specs.declared.State.{State}
 use Rattle.field.proofs.Xor.{⊕-lt}
 use Rattle.aes.proofs.ByteStates.{ByteWord, ByteState, addRoundKey-bytes, cipher-bytes, invCipher-bytes}
-use Rattle.aes.proofs.Inverse.{added-twice, invCipher-cipher}
+use Rattle.aes.proofs.Inverse.{added-twice, invCipher-cipher, cipher-invCipher}
 use Rattle.aes.proofs.Spread.{stateAt-bytes}
 use Rattle.modes.specs.Walk.{carried, walked}
 use Rattle.modes.specs.Xts.{blockEnc, blockDec, nextTweak, timesAlpha, shiftedWord, xtsAesEnc, xtsAesDec, lowWord, numberBlock}
@@ -63,42 +63,53 @@ numberBlock-bytes n =
       c3 = record { r0 = lit< tt; r1 = lit< tt; r2 = lit< tt; r3 = lit< tt };
     }
 
-module _ (w : List ℕ) (key-bytes : ByteList w) (n : ℕ) where
-  xts-undo : (t p : State) → ByteState t → ByteState p → blockDec w n t (blockEnc w n t p) ≡ p
-  unfolding blockEnc blockDec
-  xts-undo t p ht hp =
-      ap (λ (u : State). addRoundKey (invCipher w n u) t) (added-twice (cipher w n (addRoundKey p t)) t)
-      ∙ ap (λ (u : State). addRoundKey u t) (invCipher-cipher w key-bytes n (addRoundKey p t) (addRoundKey-bytes p t hp ht))
-      ∙ added-twice p t
+-- ---- a function of states between two additions of the tweak: both directions are of this kind
 
-  step-bytes : (t p : State) → ByteState t → ByteState p → ByteState (blockEnc w n t p)
-  unfolding blockEnc
-  step-bytes t p ht hp = addRoundKey-bytes _ _ (cipher-bytes w key-bytes n _ (addRoundKey-bytes p t hp ht)) ht
+unfoldable tweaked : (State → State) → State → State → State
+tweaked f t p = addRoundKey (f (addRoundKey p t)) t
 
-  invStep-bytes : (t p : State) → ByteState t → ByteState p → ByteState (blockDec w n t p)
-  unfolding blockDec
-  invStep-bytes t p ht hp = addRoundKey-bytes _ _ (invCipher-bytes w key-bytes n _ (addRoundKey-bytes p t hp ht)) ht
+tweak-bytes : (step : State → State → State) (l : List ℕ) (t : State) → ByteState t → (i : ℕ) → ByteState (carried step nextTweak l t i)
+unfolding carried
+tweak-bytes step l t h zero = h
+tweak-bytes step l t h (suc i) = timesAlpha-bytes _ (tweak-bytes step l t h i)
 
-  tweak : (step : State → State → State) (l : List ℕ) (t : State) → ByteState t → (i : ℕ) → ByteState (carried step nextTweak l t i)
-  unfolding carried
-  tweak step l t h zero = h
-  tweak step l t h (suc i) = timesAlpha-bytes _ (tweak step l t h i)
+module _ (f g : State → State) (undo : (s : State) → ByteState s → g (f s) ≡ s) where
+  tweaked-undo : (t p : State) → ByteState t → ByteState p → tweaked g t (tweaked f t p) ≡ p
+  unfolding tweaked
+  tweaked-undo t p ht hp =
+      ap (λ (u : State). addRoundKey (g u) t) (added-twice (f (addRoundKey p t)) t)
+      ∙ ap (λ (u : State). addRoundKey u t) (undo (addRoundKey p t) (addRoundKey-bytes p t hp ht)) ∙ added-twice p t
 
-  module _ (t : State) (ht : ByteState t) (m : ℕ) (l : List ℕ) (bytes : ByteList l) where
-    pub xts-round-trip : length l ≡ 16 * m → xtsAesDec w n t m (xtsAesEnc w n t m l) ≡ l
-    unfolding xtsAesDec xtsAesEnc
-    xts-round-trip e =
-        unwalked (blockEnc w n) nextTweak l t (blockDec w n) nextTweak m
-        (λ i h. xts-undo (carried (blockEnc w n) nextTweak l t i) (stateAt l (16 * i)) (tweak (blockEnc w n) l t ht i) (stateAt-bytes l bytes (16 * i)))
-        (λ u p. refl) e
+  tweaked-back : (t : State) → ByteState t → (m : ℕ) (l : List ℕ) → ByteList l → length l ≡ 16 * m → walked (tweaked g) nextTweak (walked (tweaked f) nextTweak l t m) t m ≡ l
+  tweaked-back t ht m l bytes e =
+      unwalked (tweaked f) nextTweak l t (tweaked g) nextTweak m
+      (λ i h. tweaked-undo (carried (tweaked f) nextTweak l t i) (stateAt l (16 * i)) (tweak-bytes (tweaked f) l t ht i) (stateAt-bytes l bytes (16 * i)))
+      (λ u p. refl) e
 
-    pub xtsAesEnc-bytes : ByteList (xtsAesEnc w n t m l)
-    unfolding xtsAesEnc
-    xtsAesEnc-bytes = walked-bytes (blockEnc w n) nextTweak l t (λ i. step-bytes _ _ (tweak (blockEnc w n) l t ht i) (stateAt-bytes l bytes (16 * i))) m
+tweaked-bytes : (f : State → State) → ((s : State) → ByteState s → ByteState (f s)) → (t : State) → ByteState t → (m : ℕ) (l : List ℕ) → ByteList l → ByteList (walked (tweaked f) nextTweak l t m)
+unfolding tweaked
+tweaked-bytes f h t ht m l bytes =
+    walked-bytes (tweaked f) nextTweak l t
+    (λ i. addRoundKey-bytes _ _ (h _ (addRoundKey-bytes _ _ (stateAt-bytes l bytes (16 * i)) (tweak-bytes (tweaked f) l t ht i))) (tweak-bytes (tweaked f) l t ht i)) m
 
-    pub xtsAesDec-bytes : ByteList (xtsAesDec w n t m l)
-    unfolding xtsAesDec
-    xtsAesDec-bytes = walked-bytes (blockDec w n) nextTweak l t (λ i. invStep-bytes _ _ (tweak (blockDec w n) l t ht i) (stateAt-bytes l bytes (16 * i))) m
+-- ---- the two directions
+
+module _ (w : List ℕ) (key-bytes : ByteList w) (nr : ℕ) (t : State) (ht : ByteState t) (m : ℕ) (l : List ℕ) (bytes : ByteList l) where
+  pub xts-dec-enc : length l ≡ 16 * m → xtsAesDec w nr t m (xtsAesEnc w nr t m l) ≡ l
+  unfolding xtsAesDec xtsAesEnc blockEnc blockDec tweaked
+  xts-dec-enc = tweaked-back (cipher w nr) (invCipher w nr) (invCipher-cipher w key-bytes nr) t ht m l bytes
+
+  pub xts-enc-dec : length l ≡ 16 * m → xtsAesEnc w nr t m (xtsAesDec w nr t m l) ≡ l
+  unfolding xtsAesDec xtsAesEnc blockEnc blockDec tweaked
+  xts-enc-dec = tweaked-back (invCipher w nr) (cipher w nr) (cipher-invCipher w key-bytes nr) t ht m l bytes
+
+  pub xtsAesEnc-bytes : ByteList (xtsAesEnc w nr t m l)
+  unfolding xtsAesEnc blockEnc tweaked
+  xtsAesEnc-bytes = tweaked-bytes (cipher w nr) (cipher-bytes w key-bytes nr) t ht m l bytes
+
+  pub xtsAesDec-bytes : ByteList (xtsAesDec w nr t m l)
+  unfolding xtsAesDec blockDec tweaked
+  xtsAesDec-bytes = tweaked-bytes (invCipher w nr) (invCipher-bytes w key-bytes nr) t ht m l bytes
 
 pub length-xtsAesEnc : (w : List ℕ) (n : ℕ) (t : State) (m : ℕ) (l : List ℕ) → length (xtsAesEnc w n t m l) ≡ 16 * m
 unfolding xtsAesEnc

@@ -1,0 +1,141 @@
+-- The laws that callers of ciphers cite, and nothing more: what was encrypted is decrypted again, lengths are kept, and results are bytes, for every key
+-- and every buffer. Each entry is `answer` of a test of lengths, so each law is one on `answer`, given what the mode does. Assumes nothing.
+use mathlib.Core.Path.{_≡_, refl, sym, ap, _∙_, subst}
+use mathlib.Core.Bool.{Bool, true, false}
+use mathlib.Core.List.{List}
+use Prim.Native.Nat.{ℕ, _+_, _*_, _/_, _≤_, _<_}
+use native.Mathlib.Omega.{arith}
+use lib.ListN.{length, take, drop}
+use Rattle.aes.specs.Bytes.{ByteList}
+use Rattle.aes.specs.KeyExpansion.{KeySize, roundsOf, keyExpansion}
+use Rattle.aes.specs.declared.State.{State}
+use Rattle.aes.proofs.ByteStates.{ByteState, cipher-bytes}
+use Rattle.aes.proofs.Spread.{keyExpansion-bytes, take-bytes, drop-bytes}
+use Rattle.modes.specs.Xts.{xtsAesEnc, xtsAesDec, numberBlock}
+use Rattle.modes.specs.Cts.{cbcCs3Encrypt, cbcCs3Decrypt}
+use Rattle.modes.specs.Ecb.{ecbBlocks}
+use Rattle.modes.proofs.EachBlock.{length-ecbBlocks, ecbBlocks-bytes}
+use Rattle.modes.proofs.Opened.{numberBlock-bytes, xts-dec-enc, xts-enc-dec, xtsAesEnc-bytes, xtsAesDec-bytes, length-xtsAesEnc, length-xtsAesDec}
+use Rattle.modes.proofs.Returned.{cts-round-trip, length-cbcCs3Encrypt, length-cbcCs3Decrypt, cbcCs3Encrypt-bytes, cbcCs3Decrypt-bytes}
+use Rattle.ciphers.specs.Entries.{Answer, answer, zeroBlock, ctsFits, ctsEncrypt, ctsDecrypt, xtsFits, tweakOf, xtsEncrypt, xtsDecrypt, ecbFits, ecbEncrypt}
+use Rattle.ciphers.proofs.Fits.{cts-sizes, xts-sizes, ecb-sizes}
+
+-- ---- laws on `answer`
+
+answer-length : (b : Bool) (new old : List ℕ) → (b ≡ true → length new ≡ length old) → length ((answer b new old) .buffer) ≡ length old
+answer-length true new old h = h refl
+answer-length false new old h = refl
+
+answer-bytes : (b : Bool) (new old : List ℕ) → (b ≡ true → ByteList new) → ByteList old → ByteList ((answer b new old) .buffer)
+answer-bytes true new old h g = h refl
+answer-bytes false new old h g = g
+
+-- one entry after another that tests the same lengths and undoes it: the answer is the same, and the buffer is back
+answer-back : (b : Bool) (new old : List ℕ) (fits : ℕ → Bool) (back : List ℕ → List ℕ) → fits (length old) ≡ b → (b ≡ true → length new ≡ length old) → (b ≡ true → back new ≡ old)
+    → answer (fits (length ((answer b new old) .buffer))) (back ((answer b new old) .buffer)) ((answer b new old) .buffer)
+    ≡ record { status = (answer b new old) .status; buffer = old }
+answer-back true new old fits back e h g =
+    ap (λ (c : Bool). answer c (back new) new) (ap fits (h refl) ∙ e) ∙ ap (λ (l : List ℕ). answer true l new) (g refl)
+answer-back false new old fits back e h g = ap (λ (c : Bool). answer c (back old) old) e
+
+-- ---- CBC-CS3: decryption answers as encryption did, and gives the text again
+
+module _ (key l : List ℕ) where
+  encrypt-length : ctsFits (length key) (length l) ≡ true → length (cbcCs3Encrypt (keyExpansion key) (roundsOf (length key / 4)) zeroBlock l) ≡ length l
+  encrypt-length h = length-cbcCs3Encrypt (keyExpansion key) (roundsOf (length key / 4)) zeroBlock l (cts-sizes (length key) (length l) h .1)
+
+  pub ctsEncrypt-length : length ((ctsEncrypt key l) .buffer) ≡ length l
+  unfolding ctsEncrypt
+  ctsEncrypt-length = answer-length (ctsFits (length key) (length l)) (cbcCs3Encrypt (keyExpansion key) (roundsOf (length key / 4)) zeroBlock l) l encrypt-length
+
+  pub ctsDecrypt-length : length ((ctsDecrypt key l) .buffer) ≡ length l
+  unfolding ctsDecrypt
+  ctsDecrypt-length =
+      answer-length (ctsFits (length key) (length l)) (cbcCs3Decrypt (keyExpansion key) (roundsOf (length key / 4)) zeroBlock l) l
+      (λ h. length-cbcCs3Decrypt (keyExpansion key) (roundsOf (length key / 4)) zeroBlock l (cts-sizes (length key) (length l) h .1))
+
+  module _ (hk : ByteList key) (hl : ByteList l) where
+    pub ctsDecrypt-ctsEncrypt : ctsDecrypt key ((ctsEncrypt key l) .buffer) ≡ record { status = (ctsEncrypt key l) .status; buffer = l }
+    unfolding ctsEncrypt ctsDecrypt
+    ctsDecrypt-ctsEncrypt =
+        answer-back (ctsFits (length key) (length l)) (cbcCs3Encrypt (keyExpansion key) (roundsOf (length key / 4)) zeroBlock l) l (ctsFits (length key))
+        (cbcCs3Decrypt (keyExpansion key) (roundsOf (length key / 4)) zeroBlock) refl encrypt-length
+        (λ h. cts-round-trip (keyExpansion key) (keyExpansion-bytes key hk) (roundsOf (length key / 4)) zeroBlock (numberBlock-bytes 0) l hl (cts-sizes (length key) (length l) h .1))
+
+    pub ctsEncrypt-bytes : ByteList ((ctsEncrypt key l) .buffer)
+    unfolding ctsEncrypt
+    ctsEncrypt-bytes =
+        answer-bytes (ctsFits (length key) (length l)) (cbcCs3Encrypt (keyExpansion key) (roundsOf (length key / 4)) zeroBlock l) l
+        (λ h. cbcCs3Encrypt-bytes (keyExpansion key) (keyExpansion-bytes key hk) (roundsOf (length key / 4)) zeroBlock (numberBlock-bytes 0) l hl) hl
+
+    pub ctsDecrypt-bytes : ByteList ((ctsDecrypt key l) .buffer)
+    unfolding ctsDecrypt
+    ctsDecrypt-bytes =
+        answer-bytes (ctsFits (length key) (length l)) (cbcCs3Decrypt (keyExpansion key) (roundsOf (length key / 4)) zeroBlock l) l
+        (λ h. cbcCs3Decrypt-bytes (keyExpansion key) (keyExpansion-bytes key hk) (roundsOf (length key / 4)) zeroBlock (numberBlock-bytes 0) l hl) hl
+
+-- ---- XTS-AES-256: each of the two undoes the other
+
+tweakOf-bytes : (key : List ℕ) (n : ℕ) → ByteList key → ByteState (tweakOf key n)
+unfolding tweakOf
+tweakOf-bytes key n h = cipher-bytes (keyExpansion (drop 32 key)) (keyExpansion-bytes (drop 32 key) (drop-bytes 32 key h)) 14 (numberBlock n) (numberBlock-bytes n)
+
+module _ (key : List ℕ) (n : ℕ) (l : List ℕ) where
+  enc-length : xtsFits (length key) (length l) ≡ true → length (xtsAesEnc (keyExpansion (take 32 key)) 14 (tweakOf key n) 256 l) ≡ length l
+  enc-length h = length-xtsAesEnc (keyExpansion (take 32 key)) 14 (tweakOf key n) 256 l ∙ sym (xts-sizes (length key) (length l) h .1)
+
+  dec-length : xtsFits (length key) (length l) ≡ true → length (xtsAesDec (keyExpansion (take 32 key)) 14 (tweakOf key n) 256 l) ≡ length l
+  dec-length h = length-xtsAesDec (keyExpansion (take 32 key)) 14 (tweakOf key n) 256 l ∙ sym (xts-sizes (length key) (length l) h .1)
+
+  pub xtsEncrypt-length : length ((xtsEncrypt key n l) .buffer) ≡ length l
+  unfolding xtsEncrypt
+  xtsEncrypt-length = answer-length (xtsFits (length key) (length l)) (xtsAesEnc (keyExpansion (take 32 key)) 14 (tweakOf key n) 256 l) l enc-length
+
+  pub xtsDecrypt-length : length ((xtsDecrypt key n l) .buffer) ≡ length l
+  unfolding xtsDecrypt
+  xtsDecrypt-length = answer-length (xtsFits (length key) (length l)) (xtsAesDec (keyExpansion (take 32 key)) 14 (tweakOf key n) 256 l) l dec-length
+
+  module _ (hk : ByteList key) (hl : ByteList l) where
+    schedule-bytes : ByteList (keyExpansion (take 32 key))
+    schedule-bytes = keyExpansion-bytes (take 32 key) (take-bytes 32 key hk)
+
+    pub xtsDecrypt-xtsEncrypt : xtsDecrypt key n ((xtsEncrypt key n l) .buffer) ≡ record { status = (xtsEncrypt key n l) .status; buffer = l }
+    unfolding xtsEncrypt xtsDecrypt
+    xtsDecrypt-xtsEncrypt =
+        answer-back (xtsFits (length key) (length l)) (xtsAesEnc (keyExpansion (take 32 key)) 14 (tweakOf key n) 256 l) l (xtsFits (length key))
+        (xtsAesDec (keyExpansion (take 32 key)) 14 (tweakOf key n) 256) refl enc-length
+        (λ h. xts-dec-enc (keyExpansion (take 32 key)) schedule-bytes 14 (tweakOf key n) (tweakOf-bytes key n hk) 256 l hl (xts-sizes (length key) (length l) h .1))
+
+    pub xtsEncrypt-xtsDecrypt : xtsEncrypt key n ((xtsDecrypt key n l) .buffer) ≡ record { status = (xtsDecrypt key n l) .status; buffer = l }
+    unfolding xtsEncrypt xtsDecrypt
+    xtsEncrypt-xtsDecrypt =
+        answer-back (xtsFits (length key) (length l)) (xtsAesDec (keyExpansion (take 32 key)) 14 (tweakOf key n) 256 l) l (xtsFits (length key))
+        (xtsAesEnc (keyExpansion (take 32 key)) 14 (tweakOf key n) 256) refl dec-length
+        (λ h. xts-enc-dec (keyExpansion (take 32 key)) schedule-bytes 14 (tweakOf key n) (tweakOf-bytes key n hk) 256 l hl (xts-sizes (length key) (length l) h .1))
+
+    pub xtsEncrypt-bytes : ByteList ((xtsEncrypt key n l) .buffer)
+    unfolding xtsEncrypt
+    xtsEncrypt-bytes =
+        answer-bytes (xtsFits (length key) (length l)) (xtsAesEnc (keyExpansion (take 32 key)) 14 (tweakOf key n) 256 l) l
+        (λ h. xtsAesEnc-bytes (keyExpansion (take 32 key)) schedule-bytes 14 (tweakOf key n) (tweakOf-bytes key n hk) 256 l hl) hl
+
+    pub xtsDecrypt-bytes : ByteList ((xtsDecrypt key n l) .buffer)
+    unfolding xtsDecrypt
+    xtsDecrypt-bytes =
+        answer-bytes (xtsFits (length key) (length l)) (xtsAesDec (keyExpansion (take 32 key)) 14 (tweakOf key n) 256 l) l
+        (λ h. xtsAesDec-bytes (keyExpansion (take 32 key)) schedule-bytes 14 (tweakOf key n) (tweakOf-bytes key n hk) 256 l hl) hl
+
+-- ---- ECB
+
+module _ (key l : List ℕ) where
+  pub ecbEncrypt-length : length ((ecbEncrypt key l) .buffer) ≡ length l
+  unfolding ecbEncrypt
+  ecbEncrypt-length =
+      answer-length (ecbFits (length key) (length l)) (ecbBlocks (keyExpansion key) 10 l (length l / 16)) l
+      (λ h. length-ecbBlocks (keyExpansion key) 10 l (length l / 16) ∙ sym (ecb-sizes (length key) (length l) h .1))
+
+  pub ecbEncrypt-bytes : ByteList key → ByteList l → ByteList ((ecbEncrypt key l) .buffer)
+  unfolding ecbEncrypt
+  ecbEncrypt-bytes hk hl =
+      answer-bytes (ecbFits (length key) (length l)) (ecbBlocks (keyExpansion key) 10 l (length l / 16)) l
+      (λ h. ecbBlocks-bytes (keyExpansion key) 10 l (keyExpansion-bytes key hk) hl (length l / 16)) hl

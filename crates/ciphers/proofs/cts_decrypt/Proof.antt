@@ -1,0 +1,29 @@
+-- `cts_decrypt` answers as ctsDecrypt says: where the lengths fit, by what the cipher ensures; else EINVAL, and the buffer is as it was. Assumes nothing.
+use mathlib.Core.Path.{_≡_, sym, _∙_}
+use lib.ListN.{length}
+use denote.Ref.{now}
+use borrow.Author.Needs.{needs}
+use Rattle.ciphers.specs.Entries.{ctsFits, ctsDecrypt}
+use Rattle.ciphers.proofs.Fits.{cts-sizes, answered, refused}
+use Rattle.ciphers.proofs.cts_decrypt.Statement.{statement}
+use Rattle.ciphers.proofs.cts_decrypt.Tie as tie
+
+cts-fits-requires : tie.Need-cts-fits-requires
+cts-fits-requires c κs = search needs
+
+cts-decrypt-requires : tie.Need-cts-decrypt-requires
+cts-decrypt-requires c κs = cts-sizes (length (now (c .before .before .before .before .before .args .key))) (length (now (c .before .before .before .before .before .args .text))) (sym (c .before .before .cts-fits .ensures) ∙ c .before .if1 .taken)
+
+same-length : tie.Need-same-length
+same-length c = search needs
+
+returns : tie.Need-returns
+unfolding ctsDecrypt
+returns c = answered (ctsFits (length (now (c .before .before .before .before .before .before .before .before .args .key))) (length (now (c .before .before .before .before .before .before .before .before .args .text)))) _ _ _ (sym (c .before .before .before .before .before .cts-fits .ensures) ∙ c .before .before .before .before .if1 .taken) (c .before .before .cts-decrypt .ensures)
+
+returns-2 : tie.Need-returns-2
+unfolding ctsDecrypt
+returns-2 c = refused (ctsFits (length (now (c .before .before .before .before .args .key))) (length (now (c .before .before .before .before .args .text)))) _ _ (sym (c .before .cts-fits .ensures) ∙ c .if1 .left)
+
+pub cts-decrypt-spec : {M : Type 1} → statement M
+cts-decrypt-spec = tie.close (tie.spec cts-fits-requires cts-decrypt-requires same-length returns returns-2)

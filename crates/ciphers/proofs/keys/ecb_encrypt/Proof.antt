@@ -1,0 +1,47 @@
+use Prim.Native.Nat.{ℕ, _+_, _*_, _/_, _≤_}
+use native.Mathlib.Omega.{arith}
+use mathlib.Core.Path.{_≡_, refl}
+use lib.ListN.{length, take}
+use denote.Ref.{now}
+use Rattle.ciphers.proofs.Schedules.{count-take, under-128}
+use borrow.Author.Needs.{needs}
+use Rattle.ciphers.proofs.keys.ecb_encrypt.Statement.{statement}
+use Rattle.ciphers.proofs.keys.ecb_encrypt.Tie as tie
+
+table-requires : tie.Need-table-requires
+table-requires c κs = search needs
+
+expanded-key-requires : tie.Need-expanded-key-requires
+expanded-key-requires c κs = search needs
+
+array-share-prefix-w : tie.Need-array-share-prefix-w
+array-share-prefix-w c = search needs
+
+slice-aggregate-encrypt : tie.Need-slice-aggregate-encrypt
+slice-aggregate-encrypt c = count-take 176 (c .before .before .expanded-key .result) (omega arith)
+
+encrypt-requires : tie.Need-encrypt-requires
+encrypt-requires c κs = (
+  record { table = c .before .before .before .before .table .ensures; few = omega arith; whole = omega (arith, count-take 176 (c .before .before .before .expanded-key .result) (omega arith)) },
+  omega (arith, c .before .before .before .before .before .before .before .pre),
+  omega (arith, c .before .before .before .before .before .before .before .pre),
+)
+
+same-length : tie.Need-same-length
+same-length c = search needs
+
+returns : tie.Need-returns
+returns c =
+    under-128 (now (c .before .before .before .before .before .before .before .before .before .before .args .key)) (c .before .before .before .before .before .before .expanded-key .result) _ _ _ (c .before .before .before .before .before .before .before .before .before .before .pre .0) (c .before .before .encrypt .ensures) (c .before .before .before .before .before .before .expanded-key .ensures)
+
+pub ecb-encrypt-spec : {M : Type 1} → statement M
+ecb-encrypt-spec =
+    tie.close
+    (tie.spec
+    table-requires
+    expanded-key-requires
+    array-share-prefix-w
+    slice-aggregate-encrypt
+    encrypt-requires
+    same-length
+    returns)

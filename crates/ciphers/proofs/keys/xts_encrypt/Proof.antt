@@ -1,0 +1,51 @@
+use Prim.Native.Nat.{ℕ, _+_, _*_, _/_, _≤_}
+use native.Mathlib.Omega.{arith}
+use mathlib.Core.Path.{_≡_, refl}
+use lib.ListN.{length, take}
+use denote.Ref.{now}
+use Rattle.ciphers.proofs.Schedules.{count-take, under-half}
+use Rattle.modes.specs.Xts.{xtsAesEnc}
+use borrow.Author.Needs.{needs}
+use Rattle.ciphers.proofs.keys.xts_encrypt.Statement.{statement}
+use Rattle.ciphers.proofs.keys.xts_encrypt.Tie as tie
+
+table-requires : tie.Need-table-requires
+table-requires c κs = search needs
+
+slice-aggregate-expanded-key : tie.Need-slice-aggregate-expanded-key
+slice-aggregate-expanded-key c = count-take 32 (now (c .before .before .before .before .args .key)) (omega arith)
+
+expanded-key-requires : tie.Need-expanded-key-requires
+expanded-key-requires c κs =
+    let e : 32 ≡ length (take 32 (now (c .before .before .before .before .args .key))) = count-take 32 (now (c .before .before .before .before .args .key)) (omega arith) in
+    record { words = omega arith; least = omega arith; most = omega arith }
+
+slice-aggregate-encrypt : tie.Need-slice-aggregate-encrypt
+slice-aggregate-encrypt c = search needs
+
+tweak-requires : tie.Need-tweak-requires
+tweak-requires c κs = search needs
+
+encrypt-requires : tie.Need-encrypt-requires
+encrypt-requires c κs = search needs
+
+same-length : tie.Need-same-length
+same-length c = search needs
+
+returns : tie.Need-returns
+returns c =
+    under-half xtsAesEnc (now (c .before .before .before .before .before .before .before .before .before .before .before .before .args .key)) (c .before .before .before .before .before .before .before .expanded-key .result) _ _ _ _ (c .before .before .before .before .before .before .before .before .before .before .before .before .pre .0) (slice-aggregate-encrypt (c .before .before .before .before .before))
+    (c .before .before .encrypt .ensures) (c .before .before .before .before .before .before .before .expanded-key .ensures) (c .before .before .before .before .tweak .ensures)
+
+pub xts-encrypt-spec : {M : Type 1} → statement M
+xts-encrypt-spec =
+    tie.close
+    (tie.spec
+    table-requires
+    slice-aggregate-expanded-key
+    expanded-key-requires
+    slice-aggregate-encrypt
+    tweak-requires
+    encrypt-requires
+    same-length
+    returns)

@@ -1,0 +1,29 @@
+-- `xts_decrypt` answers as xtsDecrypt says: where the lengths fit, by what the cipher ensures; else EINVAL, and the buffer is as it was. Assumes nothing.
+use mathlib.Core.Path.{_≡_, sym, _∙_}
+use lib.ListN.{length}
+use denote.Ref.{now}
+use borrow.Author.Needs.{needs}
+use Rattle.ciphers.specs.Entries.{xtsFits, xtsDecrypt}
+use Rattle.ciphers.proofs.Fits.{xts-sizes, answered, refused}
+use Rattle.ciphers.proofs.xts_decrypt.Statement.{statement}
+use Rattle.ciphers.proofs.xts_decrypt.Tie as tie
+
+xts-fits-requires : tie.Need-xts-fits-requires
+xts-fits-requires c κs = search needs
+
+xts-decrypt-requires : tie.Need-xts-decrypt-requires
+xts-decrypt-requires c κs = xts-sizes (length (now (c .before .before .before .before .before .args .key))) (length (now (c .before .before .before .before .before .args .block))) (sym (c .before .before .xts-fits .ensures) ∙ c .before .if1 .taken)
+
+same-length : tie.Need-same-length
+same-length c = search needs
+
+returns : tie.Need-returns
+unfolding xtsDecrypt
+returns c = answered (xtsFits (length (now (c .before .before .before .before .before .before .before .before .args .key))) (length (now (c .before .before .before .before .before .before .before .before .args .block)))) _ _ _ (sym (c .before .before .before .before .before .xts-fits .ensures) ∙ c .before .before .before .before .if1 .taken) (c .before .before .xts-decrypt .ensures)
+
+returns-2 : tie.Need-returns-2
+unfolding xtsDecrypt
+returns-2 c = refused (xtsFits (length (now (c .before .before .before .before .args .key))) (length (now (c .before .before .before .before .args .block)))) _ _ (sym (c .before .xts-fits .ensures) ∙ c .if1 .left)
+
+pub xts-decrypt-spec : {M : Type 1} → statement M
+xts-decrypt-spec = tie.close (tie.spec xts-fits-requires xts-decrypt-requires same-length returns returns-2)

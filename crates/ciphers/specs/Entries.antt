@@ -1,0 +1,76 @@
+-- The public entries of ciphers: the answer and what the lent buffer holds then, for every key and every buffer. Document 01: "a key other than
+-- 16 or 32 bytes (XTS: 64), a CTS text outside 16 to 4,096 bytes or an XTS block other than 4,096 is EINVAL, and the buffer stays". Assumes nothing.
+use mathlib.Core.Bool.{Bool, true, false}
+use mathlib.Core.List.{List}
+use Prim.Native.Nat.{ℕ, _+_, _*_, _/_, _%_}
+use lib.Dec.{eqb, leb}
+use lib.ListN.{length, take, drop}
+use Rattle.aes.specs.KeyExpansion.{roundsOf, keyExpansion}
+use Rattle.aes.specs.Cipher.{cipher}
+use Rattle.aes.specs.declared.State.{State}
+use Rattle.modes.specs.Xts.{xtsAesEnc, xtsAesDec, numberBlock}
+use Rattle.modes.specs.Cts.{cbcCs3Encrypt, cbcCs3Decrypt}
+use Rattle.modes.specs.Ecb.{ecbBlocks}
+use Rattle.ciphers.specs.declared.Status.{Status}
+
+-- what a call answers, and what the lent buffer holds then
+pub record Answer : Type 0 where
+  pub status : Status
+  pub buffer : List ℕ
+
+-- where the lengths are taken: done, and the buffer becomes new; else EINVAL, which is 22, and the buffer keeps every byte
+abbrev pub answer : Bool → List ℕ → List ℕ → Answer
+answer true new old = record { status = record { errno = 0 }; buffer = new }
+answer false new old = record { status = record { errno = 22 }; buffer = old }
+
+abbrev pub and : Bool → Bool → Bool
+and true b = b
+and false b = false
+
+abbrev pub or : Bool → Bool → Bool
+or true b = true
+or false b = b
+
+-- ---- CBC-CS3 under a key of 16 or 32 bytes, from an initialization vector of zeros
+
+-- a key of 16 or 32 bytes, and a text of 16 to 4,096
+unfoldable pub ctsFits : ℕ → ℕ → Bool
+ctsFits key text = and (or (eqb key 16) (eqb key 32)) (and (leb 16 text) (leb text 4096))
+
+abbrev pub zeroBlock : State
+zeroBlock = numberBlock 0
+
+unfoldable pub ctsEncrypt : List ℕ → List ℕ → Answer
+ctsEncrypt key text =
+    answer (ctsFits (length key) (length text)) (cbcCs3Encrypt (keyExpansion key) (roundsOf (length key / 4)) zeroBlock text) text
+
+unfoldable pub ctsDecrypt : List ℕ → List ℕ → Answer
+ctsDecrypt key text =
+    answer (ctsFits (length key) (length text)) (cbcCs3Decrypt (keyExpansion key) (roundsOf (length key / 4)) zeroBlock text) text
+
+-- ---- XTS-AES-256 under a key of 64 bytes: the first half for the data, the second for the tweak
+
+-- a key of 64 bytes, and a block of 4,096
+unfoldable pub xtsFits : ℕ → ℕ → Bool
+xtsFits key block = and (eqb key 64) (eqb block 4096)
+
+-- the tweak of a block's first 16 bytes: the block's number, the lowest byte first, enciphered under the second half
+unfoldable pub tweakOf : List ℕ → ℕ → State
+tweakOf key number = cipher (keyExpansion (drop 32 key)) 14 (numberBlock number)
+
+unfoldable pub xtsEncrypt : List ℕ → ℕ → List ℕ → Answer
+xtsEncrypt key number block =
+    answer (xtsFits (length key) (length block)) (xtsAesEnc (keyExpansion (take 32 key)) 14 (tweakOf key number) 256 block) block
+
+unfoldable pub xtsDecrypt : List ℕ → ℕ → List ℕ → Answer
+xtsDecrypt key number block =
+    answer (xtsFits (length key) (length block)) (xtsAesDec (keyExpansion (take 32 key)) 14 (tweakOf key number) 256 block) block
+
+-- ---- ECB under a key of 16 bytes, for key derivation
+
+-- a key of 16 bytes, and 1 to 4 whole blocks
+unfoldable pub ecbFits : ℕ → ℕ → Bool
+ecbFits key text = and (eqb key 16) (and (eqb (text % 16) 0) (and (leb 16 text) (leb text 64)))
+
+unfoldable pub ecbEncrypt : List ℕ → List ℕ → Answer
+ecbEncrypt key text = answer (ecbFits (length key) (length text)) (ecbBlocks (keyExpansion key) 10 text (length text / 16)) text
