@@ -1,0 +1,2 @@
+-- The law behind label_printer's proofs.
+mod Back
