@@ -29,12 +29,12 @@ or-cases false b h = inr h
 pub cts-sizes : (k t : ℕ) → ctsFits k t ≡ true → KeySize k × (16 ≤ t) × (t ≤ 4096)
 unfolding ctsFits
 cts-sizes k t h =
-    let g : and (leb 16 t) (leb t 4096) ≡ true = and-right (or (eqb k 16) (eqb k 32)) (and (leb 16 t) (leb t 4096)) h in
-    let lo : 16 ≤ t = leb-true 16 t (and-left (leb 16 t) (leb t 4096) g) in
-    let hi : t ≤ 4096 = leb-true t 4096 (and-right (leb 16 t) (leb t 4096) g) in
+    let texts : and (leb 16 t) (leb t 4096) ≡ true = and-left (and (leb 16 t) (leb t 4096)) (or (eqb k 16) (eqb k 32)) h in
+    let lo : 16 ≤ t = leb-true 16 t (and-left (leb 16 t) (leb t 4096) texts) in
+    let hi : t ≤ 4096 = leb-true t 4096 (and-right (leb 16 t) (leb t 4096) texts) in
     ⊎-elim (λ e. let q : k ≡ 16 = eqb-true k 16 e in (record { words = omega arith; least = omega arith; most = omega arith }, lo, hi))
     (λ e. let q : k ≡ 32 = eqb-true k 32 e in (record { words = omega arith; least = omega arith; most = omega arith }, lo, hi))
-    (or-cases (eqb k 16) (eqb k 32) (and-left (or (eqb k 16) (eqb k 32)) (and (leb 16 t) (leb t 4096)) h))
+    (or-cases (eqb k 16) (eqb k 32) (and-right (and (leb 16 t) (leb t 4096)) (or (eqb k 16) (eqb k 32)) h))
 
 pub xts-sizes : (k t : ℕ) → xtsFits k t ≡ true → (k ≡ 64) × (t ≡ 4096)
 unfolding xtsFits

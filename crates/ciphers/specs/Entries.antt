@@ -33,9 +33,9 @@ or false b = b
 
 -- ---- CBC-CS3 under a key of 16 or 32 bytes, from an initialization vector of zeros
 
--- a key of 16 or 32 bytes, and a text of 16 to 4,096
+-- a text of 16 to 4,096 bytes, and a key of 16 or 32
 unfoldable pub ctsFits : ℕ → ℕ → Bool
-ctsFits key text = and (or (eqb key 16) (eqb key 32)) (and (leb 16 text) (leb text 4096))
+ctsFits key text = and (and (leb 16 text) (leb text 4096)) (or (eqb key 16) (eqb key 32))
 
 abbrev pub zeroBlock : State
 zeroBlock = numberBlock 0

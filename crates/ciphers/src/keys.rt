@@ -19,13 +19,13 @@ ghost use Rattle.ciphers.specs.Entries.{ctsFits, xtsFits, ecbFits, zeroB
 pub fn cts_fits(key: usize, text: usize) -> bool
     ensures { λ r. ⌜ r ≡ ctsFits key text ⌝ }
 {
-    if key == 16 {
-        return 16 <= text && text <= 4096;
+    if text < 16 {
+        return false;
     }
-    if key == 32 {
-        return 16 <= text && text <= 4096;
+    if 4096 < text {
+        return false;
     }
-    false
+    key == 16 || key == 32
 }
 
 pub fn xts_fits(key: usize, block: usize) -> bool
