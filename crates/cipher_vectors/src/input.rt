@@ -1,0 +1,81 @@
+// Standard input, cut into lines.
+use crate::answers;
+use crate::requests;
+use libc::STDIN_FILENO;
+ghost use Prim.Native.Nat.{_≤_};
+ghost use lib.ListN.{length};
+ghost use Rattle.io.specs.Counts.{Counts};
+
+// Answers a line, the first `used` bytes of `line`. One that fills all of `line` is too long: it may have been cut.
+fn finish(line: &[u8], used: usize)
+    requires { ⌜ used ≤ length (now line) ⌝ }
+{
+    if used == line.len() {
+        answers::malformed();
+        return;
+    }
+    requests::answer(&line[0..used]);
+}
+
+// Adds a byte to a line of `used` bytes, and returns how many it has then. A newline ends the line: it is answered, and the next has none yet.
+fn add_byte(line: &mut [u8], used: usize, b: u8) -> usize
+    requires { ⌜ used ≤ length (now line) ⌝ }
+    ensures { λ r. ⌜ r ≤ length (now (line .entry)) ⌝ }
+{
+    if b == b'\n' {
+        finish(line, used);
+        return 0;
+    }
+    if used < line.len() {
+        line[used] = b;
+        return used + 1;
+    }
+    used
+}
+
+fn add_bytes(line: &mut [u8], used: usize, bytes: &[u8]) -> usize
+    requires { ⌜ used ≤ length (now line) ⌝ }
+    ensures { λ r. ⌜ r ≤ length (now (line .entry)) ⌝ }
+{
+    let mut n = used;
+    let mut i: usize = 0;
+    while i < bytes.len() {
+        n = add_byte(line, n, bytes[i]);
+        i += 1;
+    }
+    n
+}
+
+// Reads once, and returns how many bytes came: none at the end of the input, or where the read fails.
+fn read_some(chunk: &mut [u8]) -> usize
+    ensures { λ r. ⌜ Counts r (now (chunk .exit)) ⌝ }
+{
+    let got = libc::read(STDIN_FILENO, chunk);
+    io::count(got, chunk)
+}
+
+// Answers each line that a newline ends, and returns how many bytes of a last line are left. A proved loop has to end, and nothing says that the input
+// does: so the loop counts its turns down, from a number that no run uses up.
+fn answer_whole_lines(line: &mut [u8], chunk: &mut [u8]) -> usize
+    ensures { λ r. ⌜ r ≤ length (now (line .entry)) ⌝ }
+{
+    let mut used: usize = 0;
+    let mut turns = u64::MAX;
+    while 0 < turns {
+        let n = read_some(chunk);
+        if n == 0 {
+            return used;
+        }
+        used = add_bytes(line, used, &chunk[..n]);
+        turns -= 1;
+    }
+    used
+}
+
+// Answers every line; the last may lack its newline.
+pub fn answer_all(line: &mut [u8], chunk: &mut [u8]) {
+    let used = answer_whole_lines(line, chunk);
+    if 0 < used {
+        finish(line, used);
+    }
+}

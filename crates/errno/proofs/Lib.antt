@@ -1,0 +1,2 @@
+-- The laws of errno.
+pub mod Chains

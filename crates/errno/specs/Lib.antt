@@ -1,0 +1,2 @@
+-- The definitions of errno.
+pub mod Refusals

@@ -1,0 +1,5 @@
+-- The laws of lists.
+pub mod Tests
+pub mod Tables
+pub mod Loops
+pub mod Predicates

@@ -1,0 +1,2 @@
+-- The definitions of lists.
+pub mod Bytes

@@ -1,0 +1,1 @@
+// Byte strings and tables: definitions and laws, and no function.
