@@ -1,0 +1,4 @@
+-- The laws of policy.
+pub mod Codec
+mod Listing
+mod Reading

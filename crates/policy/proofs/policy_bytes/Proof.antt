@@ -1,0 +1,46 @@
+-- `policy_bytes` is `policyBytes`: the descriptor, read byte by byte, is the whole list. Assumes nothing.
+use Rattle.policy.proofs.Reading.{policy-listed}
+use borrow.Author.Needs.{needs}
+use Rattle.policy.proofs.policy_bytes.Statement.{statement}
+use Rattle.policy.proofs.policy_bytes.Tie as tie
+
+array-read-t5 : tie.Need-array-read-t5
+array-read-t5 c = search needs
+
+array-read-t8 : tie.Need-array-read-t8
+array-read-t8 c = search needs
+
+array-read-t11 : tie.Need-array-read-t11
+array-read-t11 c = search needs
+
+array-read-t14 : tie.Need-array-read-t14
+array-read-t14 c = search needs
+
+array-read-t17 : tie.Need-array-read-t17
+array-read-t17 c = search needs
+
+array-read-t20 : tie.Need-array-read-t20
+array-read-t20 c = search needs
+
+array-read-t23 : tie.Need-array-read-t23
+array-read-t23 c = search needs
+
+array-read-t26 : tie.Need-array-read-t26
+array-read-t26 c = search needs
+
+returns : tie.Need-returns
+returns c = policy-listed (c .before .args .p) (search needs)
+
+pub policy-bytes-spec : {M : Type 1} → statement M
+policy-bytes-spec =
+    tie.close
+    (tie.spec
+    array-read-t5
+    array-read-t8
+    array-read-t11
+    array-read-t14
+    array-read-t17
+    array-read-t20
+    array-read-t23
+    array-read-t26
+    returns)

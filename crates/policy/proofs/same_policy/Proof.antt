@@ -1,0 +1,62 @@
+-- `same_policy` is `samePolicy`: a test that fails ends it, and that of the descriptors is the answer. Assumes nothing.
+use mathlib.Core.Path.{sym}
+use borrow.Author.Tests.{eq-eqb}
+use Rattle.lists.proofs.Predicates.{predicates, and-go}
+use Rattle.policy.specs.Policies.{samePolicy}
+use Rattle.policy.proofs.Listing.{descriptor-length}
+use borrow.Author.Needs.{needs}
+use Rattle.policy.proofs.same_policy.Statement.{statement}
+use Rattle.policy.proofs.same_policy.Tie as tie
+
+returns : tie.Need-returns
+unfolding samePolicy
+returns c = search predicates depth 12
+
+returns-2 : tie.Need-returns-2
+unfolding samePolicy
+returns-2 c = search predicates depth 12
+
+returns-3 : tie.Need-returns-3
+unfolding samePolicy
+returns-3 c = search predicates depth 12
+
+returns-4 : tie.Need-returns-4
+unfolding samePolicy
+returns-4 c = search predicates depth 12
+
+slice-aggregate-same : tie.Need-slice-aggregate-same
+slice-aggregate-same c =
+    let s = c .before .before .before .before .before .before .before .before .before .before .before .before .before .before .before in
+    sym (descriptor-length (s .args .a) (s .good .0))
+
+slice-aggregate-same-2 : tie.Need-slice-aggregate-same-2
+slice-aggregate-same-2 c =
+    let s = c .before .before .before .before .before .before .before .before .before .before .before .before .before .before .before .before in
+    sym (descriptor-length (s .args .b) (s .good .1 .0))
+
+same-requires : tie.Need-same-requires
+same-requires c κs = search needs
+
+returns-5 : tie.Need-returns-5
+unfolding samePolicy
+returns-5 c =
+    let f = c .before .before .before .before .before in
+    let n = f .before .before .before in
+    let k = n .before .before .before in
+    let v = k .before .before .before in
+    let flags = and-go _ _ _ (eq-eqb _ _ (f .if4 .left)) (c .same .ensures) in
+    let names = and-go _ _ _ (eq-eqb _ _ (n .if3 .left)) flags in
+    and-go _ _ _ (eq-eqb _ _ (v .if1 .left)) (and-go _ _ _ (eq-eqb _ _ (k .if2 .left)) names)
+
+pub same-policy-spec : {M : Type 1} → statement M
+same-policy-spec =
+    tie.close
+    (tie.spec
+    returns
+    returns-2
+    returns-3
+    returns-4
+    slice-aggregate-same
+    slice-aggregate-same-2
+    same-requires
+    returns-5)

@@ -1,0 +1,2 @@
+-- The definitions of policy.
+pub mod Policies

@@ -1,0 +1,219 @@
+// Encryption policies and contexts, as Linux's fs/crypto/policy.c has them: their bytes, which are valid, and when two are the same.
+mod fields;
+
+use errno::Checked;
+use errno::Errno;
+ghost use mathlib.Core.Path.{_≡_};
+ghost use Rattle.policy.specs.Policies.{isPair, isValid, samePolicy, noPolicy, noContext, readPolicy, readContext, refusedPolicy, refusedContext, policyBytes, contextBytes};
+
+// A policy: what a directory's files are encrypted with.
+pub struct Policy {
+    pub version: u8,
+    pub contents: u8,
+    pub names: u8,
+    pub flags: u8,
+    pub descriptor: [u8; 8],
+}
+
+// A context: the policy of an inode, and the nonce of its own.
+pub struct Context {
+    pub policy: Policy,
+    pub nonce: [u8; 16],
+}
+
+// What reading the bytes of a policy comes to; a refused one is all zeros.
+pub struct PolicyRead {
+    pub checked: Checked,
+    pub policy: Policy,
+}
+
+pub struct ContextRead {
+    pub checked: Checked,
+    pub context: Context,
+}
+
+// The pairs of a contents mode and a names mode that are taken. A further pair is added here and in `masterKeySize`, `nameKeySize` and their like.
+fn is_pair(contents: u8, names: u8) -> bool
+    ensures { λ r. ⌜ r ≡ isPair contents names ⌝ }
+{
+    contents == 1 && names == 4
+}
+
+pub fn is_valid(p: Policy) -> bool
+    ensures { λ r. ⌜ r ≡ isValid p ⌝ }
+{
+    if p.version != 0 {
+        return false;
+    }
+    if !is_pair(p.contents, p.names) {
+        return false;
+    }
+    p.flags <= 3
+}
+
+// Whether two policies are the same: version, modes, flags and descriptor count.
+pub fn same_policy(a: Policy, b: Policy) -> bool
+    ensures { λ r. ⌜ r ≡ samePolicy a b ⌝ }
+{
+    if a.version != b.version {
+        return false;
+    }
+    if a.contents != b.contents {
+        return false;
+    }
+    if a.names != b.names {
+        return false;
+    }
+    if a.flags != b.flags {
+        return false;
+    }
+    let x = a.descriptor;
+    let y = b.descriptor;
+    fields::same(&x, &y)
+}
+
+fn no_policy() -> Policy
+    ensures { λ r. ⌜ r ≡ noPolicy ⌝ }
+{
+    let d = fields::zeros8();
+    Policy {
+        version: 0,
+        contents: 0,
+        names: 0,
+        flags: 0,
+        descriptor: d,
+    }
+}
+
+fn no_context() -> Context
+    ensures { λ r. ⌜ r ≡ noContext ⌝ }
+{
+    let p = no_policy();
+    let x = fields::zeros16();
+    Context {
+        policy: p,
+        nonce: x,
+    }
+}
+
+// The policy in the 12 bytes of a policy, or the refusal of any other bytes.
+pub fn read_policy(bytes: &[u8]) -> PolicyRead
+    ensures { λ r. ⌜ r ≡ readPolicy (now (bytes .entry)) ⌝ }
+{
+    if bytes.len() != 12 {
+        return refused_policy();
+    }
+    let p = fields::policy_at(bytes[0], bytes);
+    if !is_valid(p) {
+        return refused_policy();
+    }
+    PolicyRead {
+        checked: Checked::Fine,
+        policy: p,
+    }
+}
+
+fn refused_policy() -> PolicyRead
+    ensures { λ r. ⌜ r ≡ refusedPolicy ⌝ }
+{
+    let p = no_policy();
+    PolicyRead {
+        checked: Checked::Refused(Errno::EINVAL),
+        policy: p,
+    }
+}
+
+// The context in the 28 bytes of a context, or the refusal of any other bytes.
+pub fn read_context(bytes: &[u8]) -> ContextRead
+    ensures { λ r. ⌜ r ≡ readContext (now (bytes .entry)) ⌝ }
+{
+    if bytes.len() != 28 {
+        return refused_context();
+    }
+    if bytes[0] != 1 {
+        return refused_context();
+    }
+    let p = fields::policy_at(0, bytes);
+    if !is_valid(p) {
+        return refused_context();
+    }
+    let x = fields::nonce_at(bytes);
+    let c = Context {
+        policy: p,
+        nonce: x,
+    };
+    ContextRead {
+        checked: Checked::Fine,
+        context: c,
+    }
+}
+
+fn refused_context() -> ContextRead
+    ensures { λ r. ⌜ r ≡ refusedContext ⌝ }
+{
+    let c = no_context();
+    ContextRead {
+        checked: Checked::Refused(Errno::EINVAL),
+        context: c,
+    }
+}
+
+// The 12 bytes of a policy.
+pub fn policy_bytes(p: Policy) -> [u8; 12]
+    ensures { λ r. ⌜ r ≡ policyBytes p ⌝ }
+{
+    let d = p.descriptor;
+    [
+        p.version,
+        p.contents,
+        p.names,
+        p.flags,
+        d[0],
+        d[1],
+        d[2],
+        d[3],
+        d[4],
+        d[5],
+        d[6],
+        d[7],
+    ]
+}
+
+// The 28 bytes of a context.
+pub fn context_bytes(c: Context) -> [u8; 28]
+    ensures { λ r. ⌜ r ≡ contextBytes c ⌝ }
+{
+    let p = c.policy;
+    let d = p.descriptor;
+    let x = c.nonce;
+    [
+        1,
+        p.contents,
+        p.names,
+        p.flags,
+        d[0],
+        d[1],
+        d[2],
+        d[3],
+        d[4],
+        d[5],
+        d[6],
+        d[7],
+        x[0],
+        x[1],
+        x[2],
+        x[3],
+        x[4],
+        x[5],
+        x[6],
+        x[7],
+        x[8],
+        x[9],
+        x[10],
+        x[11],
+        x[12],
+        x[13],
+        x[14],
+        x[15],
+    ]
+}
