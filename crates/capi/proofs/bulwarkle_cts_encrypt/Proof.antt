@@ -1,0 +1,16 @@
+-- `bulwarkle_cts_encrypt` answers what `ciphers::cts_encrypt` answers, and leaves the buffer as that left it. Assumes nothing.
+use borrow.Author.Needs.{needs}
+use Rattle.capi.proofs.bulwarkle_cts_encrypt.Statement.{statement}
+use Rattle.capi.proofs.bulwarkle_cts_encrypt.Tie as tie
+
+cts-encrypt-requires : tie.Need-cts-encrypt-requires
+cts-encrypt-requires c κs = search needs
+
+same-length : tie.Need-same-length
+same-length c = search needs
+
+returns : tie.Need-returns
+returns c = (cc, cc)
+
+pub bulwarkle-cts-encrypt-spec : {M : Type 1} → statement M
+bulwarkle-cts-encrypt-spec = tie.close (tie.spec cts-encrypt-requires same-length returns)

@@ -1,0 +1,16 @@
+-- `bulwarkle_ecb_encrypt` answers what `ciphers::ecb_encrypt` answers, and leaves the buffer as that left it. Assumes nothing.
+use borrow.Author.Needs.{needs}
+use Rattle.capi.proofs.bulwarkle_ecb_encrypt.Statement.{statement}
+use Rattle.capi.proofs.bulwarkle_ecb_encrypt.Tie as tie
+
+ecb-encrypt-requires : tie.Need-ecb-encrypt-requires
+ecb-encrypt-requires c κs = search needs
+
+same-length : tie.Need-same-length
+same-length c = search needs
+
+returns : tie.Need-returns
+returns c = (cc, cc)
+
+pub bulwarkle-ecb-encrypt-spec : {M : Type 1} → statement M
+bulwarkle-ecb-encrypt-spec = tie.close (tie.spec ecb-encrypt-requires same-length returns)

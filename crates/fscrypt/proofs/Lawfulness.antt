@@ -1,0 +1,20 @@
+-- The ciphers of fscrypt keep lengths and bytes, and decryption undoes encryption: each law is one that `ciphers` proves of its entries, and no cipher is
+-- looked into. Assumes nothing.
+use mathlib.Core.Path.{ap}
+use Rattle.ciphers.specs.Entries.{Answer}
+use Rattle.ciphers.proofs.Laws.{ecbEncrypt-length, ecbEncrypt-bytes, ctsEncrypt-length, ctsEncrypt-bytes, ctsDecrypt-length, ctsDecrypt-ctsEncrypt, xtsEncrypt-length, xtsDecrypt-length, xtsDecrypt-xtsEncrypt}
+use Rattle.fscrypt.specs.Cipher.{Lawful, fscrypt, derive, encryptName, decryptName, seal, unseal}
+
+pub fscrypt-lawful : Lawful fscrypt
+unfolding derive encryptName decryptName seal unseal
+fscrypt-lawful = record {
+  length-derive = λ k x. ecbEncrypt-length x k;
+  bytes-derive = λ k x hk hx. ecbEncrypt-bytes x k hx hk;
+  length-encryptName = ctsEncrypt-length;
+  bytes-encryptName = ctsEncrypt-bytes;
+  length-decryptName = ctsDecrypt-length;
+  decrypt-encrypt = λ k t hk ht. ap (λ (a : Answer). a .buffer) (ctsDecrypt-ctsEncrypt k t hk ht);
+  length-seal = xtsEncrypt-length;
+  length-unseal = xtsDecrypt-length;
+  unseal-seal = λ k n b hk hb. ap (λ (a : Answer). a .buffer) (xtsDecrypt-xtsEncrypt k n b hk hb);
+}

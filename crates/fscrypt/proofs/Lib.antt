@@ -1,0 +1,7 @@
+-- The laws of fscrypt. Public are those that a crate above cites.
+pub mod Lawfulness
+pub mod Padding
+pub mod Shape
+pub mod Shown
+mod Packing
+mod Lettering

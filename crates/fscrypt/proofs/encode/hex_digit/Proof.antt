@@ -1,0 +1,21 @@
+-- `encode::hex_digit` meets its contract: the law of the range that its number is in. Assumes nothing.
+use native.Mathlib.Omega.{arith}
+use Rattle.fscrypt.proofs.Lettering.{hex-low, hex-high}
+use borrow.Author.Needs.{needs}
+use Rattle.fscrypt.proofs.encode.hex_digit.Statement.{statement}
+use Rattle.fscrypt.proofs.encode.hex_digit.Tie as tie
+
+add-result : tie.Need-add-result
+add-result c = search needs
+
+returns : tie.Need-returns
+returns c = hex-low _ (omega arith)
+
+add-result-2 : tie.Need-add-result-2
+add-result-2 c = search needs
+
+returns-2 : tie.Need-returns-2
+returns-2 c = hex-high _ (omega arith)
+
+pub hex-digit-spec : {M : Type 1} → statement M
+hex-digit-spec = tie.close (tie.spec add-result returns add-result-2 returns-2)

@@ -1,0 +1,43 @@
+-- `fscrypt::fname::encrypt_name` meets its contract: encryption in place keeps the length, so that the name stays packed. Assumes nothing.
+use mathlib.Core.Path.{sym, ap}
+use mathlib.Core.List.{_++_}
+use native.Mathlib.Omega.{arith}
+use lib.ListN.{take, drop}
+use denote.Ref.{now}
+use borrow.Author.Needs.{needs}
+use Rattle.lists.specs.Bytes.{Bytes}
+use Rattle.fscrypt.proofs.Packing.{encrypted-packed}
+use Rattle.fscrypt.proofs.Shape.{name-sized, cut-length}
+use Rattle.fscrypt.proofs.fname.encrypt_name.Statement.{statement}
+use Rattle.fscrypt.proofs.fname.encrypt_name.Tie as tie
+
+pad-requires : tie.Need-pad-requires
+pad-requires c κs = search needs
+
+cast-len : tie.Need-cast-len
+cast-len c = search needs
+
+array-borrow-prefix-bytes : tie.Need-array-borrow-prefix-bytes
+array-borrow-prefix-bytes c = let d = c .before .before .pad in let g = name-sized (d .result) (d .ok) in omega arith
+
+slice-aggregate-encrypt-text : tie.Need-slice-aggregate-encrypt-text
+slice-aggregate-encrypt-text c = let d = c .before .before .before .pad in sym (cut-length (name-sized (d .result) (d .ok)))
+
+encrypt-text-requires : tie.Need-encrypt-text-requires
+encrypt-text-requires c κs = search needs
+
+returns : tie.Need-returns
+returns c = let s = c .before .before .before .before .before .before .before in
+    let x = c .before .before .before .before .before .pad in
+    encrypted-packed (take 32 (s .args .key)) (s .args .flags) (now (s .args .name)) (x .result) _ (x .ensures) (ap (λ (b : Bytes). b ++ drop (x .result .len) (x .result .bytes)) (c .before .encrypt-text .ensures))
+
+pub encrypt-name-spec : {M : Type 1} → statement M
+encrypt-name-spec =
+    tie.close
+    (tie.spec
+    pad-requires
+    cast-len
+    array-borrow-prefix-bytes
+    slice-aggregate-encrypt-text
+    encrypt-text-requires
+    returns)

@@ -1,0 +1,56 @@
+-- `fscrypt::fname::is_all_nul` meets its contract. The loop's invariant: no byte before `i` is other than NUL, so that `isAllNul` is told where it ends.
+-- Assumes nothing.
+use Prim.Native.Nat.{_≤_, _-_}
+use native.Mathlib.Omega.{arith}
+use lib.ListN.{length}
+use borrow.Author.Tests.{eq-eqb, ne-eqb}
+use borrow.Author.Needs.{needs}
+use Rattle.lists.proofs.Predicates.{not-of-true, not-of-false}
+use Rattle.lists.proofs.Loops.{Scanned, hit, miss, scanned-none, scanned-all}
+use Rattle.fscrypt.specs.Names.{isByte}
+use Rattle.fscrypt.proofs.Packing.{some-byte, no-byte}
+use Rattle.fscrypt.proofs.fname.is_all_nul.Statement.{statement}
+use Rattle.fscrypt.proofs.fname.is_all_nul.Tie as tie
+
+abbrev Inv-loop : tie.InvT-loop
+Inv-loop s i₀ i = (i ≤ length s) × Scanned isByte s i
+
+abbrev μ-loop : tie.MeasureT-loop
+μ-loop s i₀ i = length s - i
+
+loop-holds : tie.Need-loop-holds Inv-loop μ-loop
+loop-holds c = (search needs, scanned-none _ _)
+
+shared-slice-read-if1 : tie.Need-shared-slice-read-if1 Inv-loop μ-loop
+shared-slice-read-if1 c = search needs
+
+returns : tie.Need-returns Inv-loop μ-loop
+returns c = let l = c .before .before .before .loop in
+    some-byte _ (l .i) (hit _ _ 0 (l .i) (omega arith) (l .inv .1) (not-of-false _ (ne-eqb _ _ (c .if1 .taken)))) (omega arith)
+
+add-i : tie.Need-add-i Inv-loop μ-loop
+add-i c = search needs
+
+loop-less : tie.Need-loop-less Inv-loop μ-loop
+loop-less c = search needs
+
+loop-again : tie.Need-loop-again Inv-loop μ-loop
+loop-again c = let l = c .before .before .before .loop in
+    (omega arith, miss _ _ 0 (l .i) (omega arith) (l .inv .1) (not-of-true _ (eq-eqb _ _ (c .if1 .left))))
+
+returns-2 : tie.Need-returns-2 Inv-loop μ-loop
+returns-2 c = let l = c .before .loop in no-byte _ (l .i) (scanned-all _ _ _ (omega arith) (l .inv .1)) (omega arith)
+
+pub is-all-nul-spec : {M : Type 1} → statement M
+is-all-nul-spec =
+    tie.close
+    (tie.spec
+    Inv-loop
+    μ-loop
+    loop-holds
+    shared-slice-read-if1
+    returns
+    add-i
+    loop-less
+    loop-again
+    returns-2)

@@ -1,0 +1,4 @@
+-- The definitions of fscrypt.
+pub mod Cipher
+pub mod Names
+pub mod Encoded

@@ -1,0 +1,40 @@
+// The derived key of an inode, and the ciphers under it.
+ghost use mathlib.Core.Path.{_≡_};
+ghost use Prim.Native.Nat.{_≤_};
+ghost use lib.ListN.{length, take};
+ghost use Rattle.fscrypt.specs.Cipher.{derive, encryptName, decryptName, seal, unseal};
+
+// The derived key: the master key's blocks under AES-128 in ECB mode, the nonce being the AES key.
+pub fn derive_key(master: [u8; 64], nonce: [u8; 16]) -> [u8; 64]
+    ensures { λ r. ⌜ r ≡ derive master nonce ⌝ }
+{
+    let mut key = master;
+    ciphers::ecb_encrypt(&nonce, &mut key);
+    key
+}
+
+// A padded name encrypted in place under the first 32 bytes of a derived key.
+pub fn encrypt_text(key: [u8; 64], text: &mut [u8])
+    ensures { λ _. ⌜ now (text .exit) ≡ encryptName (take 32 key) (now (text .entry)) ⌝ }
+{
+    ciphers::cts_encrypt(&key[..32], text);
+}
+
+pub fn decrypt_text(key: [u8; 64], text: &mut [u8])
+    ensures { λ _. ⌜ now (text .exit) ≡ decryptName (take 32 key) (now (text .entry)) ⌝ }
+{
+    ciphers::cts_decrypt(&key[..32], text);
+}
+
+// A block of contents sealed in place under a derived key.
+pub fn seal_block(key: [u8; 64], number: u64, block: &mut [u8])
+    ensures { λ _. ⌜ now (block .exit) ≡ seal key number (now (block .entry)) ⌝ }
+{
+    ciphers::xts_encrypt(&key, number, block);
+}
+
+pub fn open_block(key: [u8; 64], number: u64, block: &mut [u8])
+    ensures { λ _. ⌜ now (block .exit) ≡ unseal key number (now (block .entry)) ⌝ }
+{
+    ciphers::xts_decrypt(&key, number, block);
+}

@@ -1,0 +1,19 @@
+// The fscrypt rules for keys and names, over the ciphers: derived keys (keysetup), and names as they are stored, read and shown (fname). The crates above
+// call these once their own checks have passed, so some have a `requires`.
+pub mod encode;
+pub mod fname;
+pub mod keysetup;
+
+use errno::Checked;
+
+// A name by value: the first len bytes, and zeros.
+pub struct Name {
+    pub len: u8,
+    pub bytes: [u8; 255],
+}
+
+// What reading a stored name comes to; a refused one is all zeros.
+pub struct NameRead {
+    pub checked: Checked,
+    pub name: Name,
+}
