@@ -1,0 +1,131 @@
+-- A run computed from the definitions, under a small cipher whose keys matter: it meets every form of answer and eleven refusals, so nothing that is
+-- stated about runs is stated of nothing. Assumes nothing.
+use Prim.Native.Nat.{ℕ, _+_, _-_, _%_}
+use mathlib.Core.Path.{_≡_, refl}
+use mathlib.Core.List.{List, [], _∷_, _++_, map}
+use lib.ListN.{getD, replicate}
+use Rattle.lists.specs.Bytes.{Bytes, zeros, firstAt, same}
+use Rattle.errno.specs.Refusals.{_⇒_, _>>_}
+use Rattle.policy.specs.Policies.{isPair, isValid, samePolicy, isMasterKeySize, nameKeySize, policyBytes, policyAt, policyCheck, readPolicy}
+use Rattle.fscrypt.specs.Cipher.{Cipher}
+use Rattle.fscrypt.specs.Names.{isDotName, isBadName, nameCheck, rounded, paddedLength, padded, encrypted, beforeNul, isAllNul, paddingCheck, readPadded}
+use Rattle.fscrypt.specs.Encoded.{letter, letters, hexDigit, encoded}
+use Rattle.volume.specs.Volume.{fresh}
+use Rattle.volume.specs.Request.{Request, addKey, removeKey, setPolicy, getPolicy, create, link, rename, exchange, remove, find, show, seal, unseal, Answer, refused, done, created, at, policyIs, shown}
+use Rattle.volume.specs.Lookup.{keySlotOf, freeKeySlot, keyOf, keyPresent, keyNeeded, freeInode, bearsNonce, nonceHolder, freeEntry, entryNamed, firstChild, firstLink, parentOf, climbFrom, isUnderItself}
+use Rattle.volume.specs.Checks.{directoryCheck, isPolicyRefused, isBadKind, isBadKeyLength, isNonceNeeded, derivedKey, nameKey, stored, readName, shownName, isUnreadable, formIn, addKeyCheck, removeKeyCheck, setPolicyCheck, getPolicyCheck, removeCheck, exchangeCheck, blockCheck, createCheck, linkCheck, renameCheck, findCheck, showCheck}
+use Rattle.volume.specs.Step.{childOf, withoutUnheld, lent, check, effect, settle, step}
+use Rattle.volume.specs.Run.{Moment, momentOf, runFrom, run}
+use Rattle.volume.specs.declared.InodeNumber.{InodeNumber}
+use Rattle.volume.specs.declared.EntryNumber.{EntryNumber}
+use Rattle.volume.specs.declared.ShownEntry.{ShownEntry}
+use Rattle.volume.specs.declared.Form.{Form}
+use Rattle.volume.specs.declared.Form.the-variants.{Plain, Decrypted, Encoded}
+
+-- each byte moved on by t
+moved : ℕ → Bytes → Bytes
+moved t x = map (λ (b : ℕ). (b + t) % 256) x
+
+-- a derived key is moved by the nonce's first byte, and a text by the key's
+small : Cipher
+small =
+    record {
+      derive = λ k x. moved (getD x 0 0) k;
+      encryptName = λ k t. moved (getD k 0 0) t;
+      decryptName = λ k t. moved ((256 - getD k 0 0) % 256) t;
+      seal = λ k n b. moved (getD k 0 0) b;
+      unseal = λ k n b. moved ((256 - getD k 0 0) % 256) b;
+    }
+
+inode : ℕ → InodeNumber
+inode n = record { 0 = n }
+
+entry : ℕ → EntryNumber
+entry n = record { 0 = n }
+
+seen : ℕ → ℕ → ℕ → Form → ℕ → Answer
+seen p i kind form n = shown (record { parent = inode p; inode = inode i; kind = kind; form = form; len = n })
+
+nonce : ℕ → Bytes
+nonce n = n ∷ zeros 15
+
+descriptor : Bytes
+descriptor = 7 ∷ zeros 7
+
+policy : Bytes
+policy = 0 ∷ 1 ∷ 4 ∷ 0 ∷ descriptor
+
+requests : List Request
+requests =
+    addKey descriptor (9 ∷ zeros 63)
+    ∷ addKey descriptor (9 ∷ zeros 63)
+    ∷ addKey (zeros 8) (zeros 5)
+    ∷ create (inode 0) 1 (100 ∷ []) (nonce 0)
+    ∷ setPolicy (inode 1) policy (nonce 1)
+    ∷ setPolicy (inode 0) policy (nonce 2)
+    ∷ create (inode 1) 2 (97 ∷ []) (nonce 2)
+    ∷ create (inode 1) 2 (97 ∷ []) (nonce 3)
+    ∷ create (inode 1) 2 (98 ∷ []) (nonce 2)
+    ∷ create (inode 0) 2 (112 ∷ []) (nonce 0)
+    ∷ link (inode 3) (inode 1) (113 ∷ [])
+    ∷ link (inode 2) (inode 0) (108 ∷ [])
+    ∷ getPolicy (inode 2)
+    ∷ getPolicy (inode 3)
+    ∷ show (entry 1) (zeros 255)
+    ∷ show (entry 1) (zeros 10)
+    ∷ create (inode 1) 1 (115 ∷ []) (nonce 4)
+    ∷ create (inode 4) 2 (120 ∷ []) (nonce 5)
+    ∷ rename (entry 0) (inode 4) (122 ∷ [])
+    ∷ rename (entry 5) (inode 1) (121 ∷ [])
+    ∷ show (entry 5) (zeros 255)
+    ∷ exchange (entry 1) (entry 5)
+    ∷ remove (entry 0)
+    ∷ find (inode 1) (97 ∷ [])
+    ∷ find (inode 1) (122 ∷ [])
+    ∷ create (inode 3) 2 (97 ∷ []) (nonce 6)
+    ∷ seal (inode 2) 0 (zeros 16)
+    ∷ removeKey descriptor
+    ∷ show (entry 1) (zeros 255)
+    ∷ show (entry 2) (zeros 255)
+    ∷ find (inode 1) (97 ∷ [])
+    ∷ remove (entry 3)
+    ∷ remove (entry 3)
+    ∷ []
+
+answers : map (λ (m : Moment). m .answer) (run small requests)
+    ≡ done
+    ∷ refused 17
+    ∷ refused 22
+    ∷ created (inode 1) (entry 0)
+    ∷ done
+    ∷ refused 1
+    ∷ created (inode 2) (entry 1)
+    ∷ refused 17
+    ∷ refused 76
+    ∷ created (inode 3) (entry 2)
+    ∷ refused 1
+    ∷ at (entry 3)
+    ∷ policyIs policy
+    ∷ refused 61
+    ∷ seen 1 2 2 Decrypted 1
+    ∷ refused 34
+    ∷ created (inode 4) (entry 4)
+    ∷ created (inode 5) (entry 5)
+    ∷ refused 22
+    ∷ done
+    ∷ seen 1 5 2 Decrypted 1
+    ∷ done
+    ∷ refused 39
+    ∷ at (entry 1)
+    ∷ refused 2
+    ∷ refused 20
+    ∷ refused 22
+    ∷ done
+    ∷ seen 1 5 2 Encoded 22
+    ∷ seen 0 3 2 Plain 1
+    ∷ refused 126
+    ∷ done
+    ∷ refused 2
+    ∷ []
+unfolding moved small inode entry seen nonce descriptor policy requests runFrom momentOf step settle lent check effect fresh childOf withoutUnheld _⇒_ _>>_ zeros firstAt same isPair isValid samePolicy isMasterKeySize nameKeySize policyBytes policyAt policyCheck readPolicy isDotName isBadName nameCheck rounded paddedLength padded encrypted beforeNul isAllNul paddingCheck readPadded letter letters hexDigit encoded keySlotOf freeKeySlot keyOf keyPresent keyNeeded freeInode bearsNonce nonceHolder freeEntry entryNamed firstChild firstLink parentOf climbFrom isUnderItself directoryCheck isPolicyRefused isBadKind isBadKeyLength isNonceNeeded derivedKey nameKey stored readName shownName isUnreadable formIn addKeyCheck removeKeyCheck setPolicyCheck getPolicyCheck removeCheck exchangeCheck blockCheck createCheck linkCheck renameCheck findCheck showCheck
+answers = refl

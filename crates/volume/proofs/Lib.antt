@@ -1,0 +1,3 @@
+-- The laws of volume.
+mod Starred
+mod Example

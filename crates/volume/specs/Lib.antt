@@ -1,0 +1,10 @@
+-- The definitions of volume, in the order in which they are read.
+pub mod Volume
+pub mod Request
+pub mod Lookup
+pub mod Checks
+pub mod Step
+pub mod Run
+pub mod Sound
+pub mod TwoRuns
+pub mod Cases

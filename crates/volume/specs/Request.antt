@@ -1,0 +1,73 @@
+-- The thirteen requests and their answers, document 01, "What may be asked". Assumes nothing.
+use Prim.Native.Nat.{ℕ}
+use Rattle.lists.specs.Bytes.{Bytes, zeros}
+use Rattle.errno.specs.Refusals.{number}
+use Rattle.volume.specs.declared.InodeNumber.{InodeNumber}
+use Rattle.volume.specs.declared.EntryNumber.{EntryNumber}
+use Rattle.volume.specs.declared.Volume.{Volume}
+use Rattle.volume.specs.declared.ShownEntry.{ShownEntry}
+use Rattle.volume.specs.declared.Reply.{Reply}
+use Rattle.volume.specs.declared.Reply.the-variants.{Done, Refused as NotDone}
+use Rattle.volume.specs.declared.CreateAnswer.{CreateAnswer}
+use Rattle.volume.specs.declared.CreateAnswer.the-variants.{Created, Refused as NotCreated}
+use Rattle.volume.specs.declared.EntryAnswer.{EntryAnswer}
+use Rattle.volume.specs.declared.EntryAnswer.the-variants.{At, Refused as Nowhere}
+use Rattle.volume.specs.declared.ShowAnswer.{ShowAnswer}
+use Rattle.volume.specs.declared.ShowAnswer.the-variants.{Shown, Refused as NotShown}
+
+-- all that a request is given, the bytes of a lent buffer included
+pub data Request : Type 0 where
+  addKey : (descriptor key : Bytes) → Request
+  removeKey : (descriptor : Bytes) → Request
+  setPolicy : (inode : InodeNumber) (policy nonce : Bytes) → Request
+  getPolicy : (inode : InodeNumber) → Request
+  create : (parent : InodeNumber) (kind : ℕ) (name nonce : Bytes) → Request
+  link : (inode parent : InodeNumber) (name : Bytes) → Request
+  rename : (entry : EntryNumber) (parent : InodeNumber) (name : Bytes) → Request
+  exchange : (one other : EntryNumber) → Request
+  remove : (entry : EntryNumber) → Request
+  find : (parent : InodeNumber) (name : Bytes) → Request
+  show : (entry : EntryNumber) (buffer : Bytes) → Request
+  seal : (inode : InodeNumber) (number : ℕ) (block : Bytes) → Request
+  unseal : (inode : InodeNumber) (number : ℕ) (block : Bytes) → Request
+
+-- "Create answers the new thing and place, link the new place, find the place, get policy the 12 bytes; show answers parent, thing, kind, form, length and
+-- name" (the name in the lent buffer). "All others answer done". A refusal is its number alone.
+pub data Answer : Type 0 where
+  refused : (number : ℕ) → Answer
+  done : Answer
+  created : (inode : InodeNumber) (entry : EntryNumber) → Answer
+  at : (entry : EntryNumber) → Answer
+  policyIs : (bytes : Bytes) → Answer
+  shown : (entry : ShownEntry) → Answer
+
+-- an answer, and the lent buffer and the volume as they are left
+pub record Outcome : Type 0 where
+  pub answer : Answer
+  pub buffer : Bytes
+  pub volume : Volume
+
+abbrev pub outcome : Answer → Bytes → Volume → Outcome
+outcome a b v = record { answer = a; buffer = b; volume = v }
+
+-- ---- the answers that code gives, each an enum of its own, as these
+
+abbrev pub replied : Reply → Answer
+replied Done = done
+replied (NotDone e) = refused (number e)
+
+abbrev pub createAnswered : CreateAnswer → Answer
+createAnswered (Created i e) = created i e
+createAnswered (NotCreated e) = refused (number e)
+
+abbrev pub entryAnswered : EntryAnswer → Answer
+entryAnswered (At e) = at e
+entryAnswered (Nowhere e) = refused (number e)
+
+abbrev pub policyAnswered : Reply → Bytes → Answer
+policyAnswered Done p = policyIs p
+policyAnswered (NotDone e) p = refused (number e)
+
+abbrev pub showAnswered : ShowAnswer → Answer
+showAnswered (Shown s) = shown s
+showAnswered (NotShown e) = refused (number e)

@@ -1,0 +1,102 @@
+-- What holds of every volume that started fresh and was changed by requests alone: document 01, "What stands on the shelf", a field for each rule.
+-- Assumes nothing.
+use Prim.Native.Nat.{ℕ, _-_, _≤_, _<_}
+use mathlib.Core.Path.{_≡_}
+use mathlib.Core.Logic.{_≢_}
+use mathlib.Core.Bool.{Bool, true, false}
+use mathlib.Core.List.{List, _++_}
+use lib.ListN.{length, getD}
+use Rattle.lists.specs.Bytes.{Bytes, zeros}
+use Rattle.errno.specs.declared.Checked.the-variants.{Fine}
+use Rattle.policy.specs.Policies.{isValid, samePolicy, noContext}
+use Rattle.policy.specs.declared.Context.{Context}
+use Rattle.fscrypt.specs.Names.{nameCheck, paddedLength}
+use Rattle.volume.specs.Volume.{keySlots, inodeSlots, entrySlots, noKey, noInode, noEntry, keyBytes, nameOf}
+use Rattle.volume.specs.Lookup.{isFreeKey, inodeAt, isFree, entryAt, isVacant, climbFrom}
+use Rattle.volume.specs.Checks.{isBadKeyLength, isBadKind}
+use Rattle.volume.specs.declared.InodeNumber.{InodeNumber}
+use Rattle.volume.specs.declared.EntryNumber.{EntryNumber}
+use Rattle.volume.specs.declared.Key.{Key}
+use Rattle.volume.specs.declared.Inode.{Inode}
+use Rattle.volume.specs.declared.Entry.{Entry}
+use Rattle.volume.specs.declared.Volume.{Volume}
+use Rattle.volume.specs.declared.Met.the-variants.{Root}
+
+-- ---- what stands where
+
+abbrev pub keyAt : Volume → ℕ → Key
+keyAt v k = getD (v .keys) k noKey
+
+abbrev pub nodeAt : Volume → ℕ → Inode
+nodeAt v i = inodeAt v (record { 0 = i })
+
+abbrev pub slotAt : Volume → ℕ → Entry
+slotAt v e = entryAt v (record { 0 = e })
+
+-- the entry is in use
+abbrev pub Used : Volume → ℕ → Type 0
+Used v e = isVacant (slotAt v e) ≡ false
+
+-- the directory that an entry stands in, and the inode that it holds
+abbrev pub dirOf : Volume → ℕ → Inode
+dirOf v e = inodeAt v ((slotAt v e) .parent)
+
+abbrev pub nodeOf : Volume → ℕ → Inode
+nodeOf v e = inodeAt v ((slotAt v e) .inode)
+
+-- an inode bears the policy of a directory
+pub record BearsPolicy (dir node : Inode) : Type 0 where
+  pub has-context : node .encrypted ≡ true
+  pub same : samePolicy (node .context .policy) (dir .context .policy) ≡ true
+
+-- a directory may hold an inode: if it is encrypted and the inode is a regular file, directory or symlink, the inode bears its policy
+abbrev pub MayHold : Inode → Inode → Type 0
+MayHold dir node = dir .encrypted ≡ true → node .kind ≤ 3 → BearsPolicy dir node
+
+-- ---- the rules
+
+pub record Sound (v : Volume) : Type 0 where
+  -- "Keys: at most 8 .. Things: at most 64 .. Places: at most 64"
+  pub key-slots : length (v .keys) ≡ keySlots
+  pub inode-slots : length (v .inodes) ≡ inodeSlots
+  pub entry-slots : length (v .entries) ≡ entrySlots
+  -- "each an 8-byte descriptor and a master key of 16, 32, 48 or 64 bytes"; a descriptor is on the keyring once
+  pub key-lengths : (k : ℕ) → isFreeKey (keyAt v k) ≡ false → isBadKeyLength ((keyAt v k) .len) ≡ false
+  pub descriptors : (k : ℕ) → length ((keyAt v k) .descriptor) ≡ 8
+  pub descriptors-apart : (j k : ℕ) → isFreeKey (keyAt v j) ≡ false → isFreeKey (keyAt v k) ≡ false → (keyAt v j) .descriptor ≡ (keyAt v k) .descriptor → j ≡ k
+  -- "Thing 0 is the root folder; it always exists and is never encrypted."
+  pub root-directory : (nodeAt v 0) .kind ≡ 1
+  pub root-plain : (nodeAt v 0) .encrypted ≡ false
+  -- "Kinds: 1 folder, 2 regular file, 3 symlink, 4 special"
+  pub kinds : (i : ℕ) → (nodeAt v i) .kind ≤ 4
+  -- "A place joins a parent folder, a thing and a stored name of 1 to 255 bytes."
+  pub parents : (e : ℕ) → Used v e → (dirOf v e) .kind ≡ 1
+  pub inodes-in-use : (e : ℕ) → Used v e → isFree (nodeOf v e) ≡ false
+  pub name-lengths : (e : ℕ) → Used v e → (0 < length (nameOf (slotAt v e))) × (length (nameOf (slotAt v e)) ≤ 255)
+  -- "A thing other than the root has one place or more; a folder has exactly one."
+  pub root-unheld : (e : ℕ) → Used v e → (slotAt v e) .inode .0 ≢ 0
+  pub has-entry : (i : ℕ) → i ≢ 0 → isFree (nodeAt v i) ≡ false → (e : ℕ) × Used v e × ((slotAt v e) .inode .0 ≡ i)
+  pub one-entry : (a b : ℕ) → Used v a → Used v b → (slotAt v a) .inode ≡ (slotAt v b) .inode → (nodeOf v a) .kind ≡ 1 → a ≡ b
+  -- every directory is reachable: the climb from it meets the root, within its budget
+  pub reachable : (i : ℕ) → (nodeAt v i) .kind ≡ 1 → climbFrom v (record { 0 = inodeSlots }) inodeSlots (record { 0 = i }) ≡ Root
+  -- stored names within a directory are distinct
+  pub names-apart : (a b : ℕ) → Used v a → Used v b → (slotAt v a) .parent ≡ (slotAt v b) .parent → nameOf (slotAt v a) ≡ nameOf (slotAt v b) → a ≡ b
+  -- demand 2: "at no time does one stand there"
+  pub policies : (e : ℕ) → Used v e → MayHold (dirOf v e) (nodeOf v e)
+  -- "a special child gets no context"; a context's policy is valid, and its nonce is its own
+  pub specials-plain : (i : ℕ) → (nodeAt v i) .kind ≡ 4 → (nodeAt v i) .encrypted ≡ false
+  pub contexts-valid : (i : ℕ) → (nodeAt v i) .encrypted ≡ true → isValid ((nodeAt v i) .context .policy) ≡ true
+  pub context-descriptors : (i : ℕ) → length ((nodeAt v i) .context .policy .descriptor) ≡ 8
+  pub context-nonces : (i : ℕ) → length ((nodeAt v i) .context .nonce) ≡ 16
+  pub nonces-apart : (i j : ℕ) → (nodeAt v i) .encrypted ≡ true → (nodeAt v j) .encrypted ≡ true → (nodeAt v i) .context .nonce ≡ (nodeAt v j) .context .nonce → i ≡ j
+  -- a name in a plain directory is a plain name, and in an encrypted one it has the padded length of some plain name
+  pub plain-names : (e : ℕ) → Used v e → (dirOf v e) .encrypted ≡ false → nameCheck (nameOf (slotAt v e)) ≡ Fine
+  pub encrypted-lengths : (e : ℕ) → Used v e → (dirOf v e) .encrypted ≡ true
+      → (n : ℕ) × (0 < n) × (n ≤ 255) × (length (nameOf (slotAt v e)) ≡ paddedLength ((dirOf v e) .context .policy .flags) n)
+  -- "A freed record is all zeros, and so are a record's unused bytes."
+  pub free-keys : (k : ℕ) → isFreeKey (keyAt v k) ≡ true → keyAt v k ≡ noKey
+  pub free-inodes : (i : ℕ) → isFree (nodeAt v i) ≡ true → nodeAt v i ≡ noInode
+  pub free-entries : (e : ℕ) → isVacant (slotAt v e) ≡ true → slotAt v e ≡ noEntry
+  pub unused-key-bytes : (k : ℕ) → (keyAt v k) .bytes ≡ keyBytes (keyAt v k) ++ zeros (64 - (keyAt v k) .len)
+  pub unused-name-bytes : (e : ℕ) → (slotAt v e) .name ≡ nameOf (slotAt v e) ++ zeros (255 - (slotAt v e) .len)
+  pub no-context : (i : ℕ) → (nodeAt v i) .encrypted ≡ false → (nodeAt v i) .context ≡ noContext

@@ -1,0 +1,225 @@
+-- The two runs of demand 3, document 01, "The two runs of demand 3": two lists of requests that differ only in key bytes give runs that differ only in key
+-- bytes and ciphertext, and each name shown plain or decrypted is the one that the requests gave that entry. Assumes nothing.
+use Prim.Native.Nat.{ℕ}
+use mathlib.Core.Path.{_≡_}
+use mathlib.Core.Logic.{_≢_}
+use mathlib.Core.Bool.{Bool, true, false, cond}
+use mathlib.Core.List.{List, [], _∷_, _++_, map, List·Memᴰ}
+use mathlib.Core.Option.{Option, some, none}
+use lib.ListN.{length, take, drop}
+use lib.Dec.{eqb, leb}
+use Rattle.lists.specs.Bytes.{Bytes, ByteList, zeros}
+use Rattle.errno.specs.Refusals.{number}
+use Rattle.errno.specs.declared.Errno.the-variants.{EUCLEAN}
+use Rattle.fscrypt.specs.Cipher.{Cipher}
+use Rattle.volume.specs.Request.{Request, addKey, removeKey, setPolicy, getPolicy, create, link, rename, exchange, remove, find, show, seal, unseal, Answer, refused, done, created, at, policyIs, shown}
+use Rattle.volume.specs.Lookup.{inodeAt}
+use Rattle.volume.specs.Run.{Moment, run}
+use Rattle.volume.specs.declared.EntryNumber.{EntryNumber}
+use Rattle.volume.specs.declared.Key.{Key}
+use Rattle.volume.specs.declared.Inode.{Inode}
+use Rattle.volume.specs.declared.Entry.{Entry}
+use Rattle.volume.specs.declared.Volume.{Volume}
+use Rattle.volume.specs.declared.ShownEntry.{ShownEntry}
+use Rattle.volume.specs.declared.Form.{Form}
+use Rattle.volume.specs.declared.Form.the-variants.{Plain, Decrypted, Encoded}
+
+-- ---- the two lists
+
+-- what the types of a request's parts say: bytes are bytes, and "Descriptors and nonces are always 8 and 16 bytes by their type"
+abbrev pub Typed : Request → Type 0
+Typed (addKey d k) = (length d ≡ 8) × ByteList d × ByteList k
+Typed (removeKey d) = (length d ≡ 8) × ByteList d
+Typed (setPolicy i p x) = ByteList p × (length x ≡ 16) × ByteList x
+Typed (getPolicy i) = Unit {0}
+Typed (create p kind n x) = ByteList n × (length x ≡ 16) × ByteList x
+Typed (link i p n) = ByteList n
+Typed (rename e p n) = ByteList n
+Typed (exchange a b) = Unit {0}
+Typed (remove e) = Unit {0}
+Typed (find p n) = ByteList n
+Typed (show e b) = ByteList b
+Typed (seal i n b) = ByteList b
+Typed (unseal i n b) = ByteList b
+
+abbrev pub AllTyped : List Request → Type 0
+AllTyped rs = (r : Request) → List·Memᴰ r rs → Typed r
+
+-- the request with zeros for the bytes of its key
+unfoldable pub blankRequest : Request → Request
+blankRequest (addKey d k) = addKey d (zeros (length k))
+blankRequest (removeKey d) = removeKey d
+blankRequest (setPolicy i p x) = setPolicy i p x
+blankRequest (getPolicy i) = getPolicy i
+blankRequest (create p kind n x) = create p kind n x
+blankRequest (link i p n) = link i p n
+blankRequest (rename e p n) = rename e p n
+blankRequest (exchange a b) = exchange a b
+blankRequest (remove e) = remove e
+blankRequest (find p n) = find p n
+blankRequest (show e b) = show e b
+blankRequest (seal i n b) = seal i n b
+blankRequest (unseal i n b) = unseal i n b
+
+-- "the two lists agree in all of it but the bytes, not the length, of the key in each add key request"
+abbrev pub SameButKeys : List Request → List Request → Type 0
+SameButKeys rs₁ rs₂ = map blankRequest rs₁ ≡ map blankRequest rs₂
+
+-- "Within one list, all add key requests with the same descriptor carry the same key, refused ones too."
+abbrev pub OneKeyEach : List Request → Type 0
+OneKeyEach rs = (d k k′ : Bytes) → List·Memᴰ (addKey d k) rs → List·Memᴰ (addKey d k′) rs → k ≡ k′
+
+-- ---- what may differ: here, and nowhere else, it is replaced by as many zeros
+
+-- the first n bytes
+abbrev pub blankStart : ℕ → Bytes → Bytes
+blankStart n b = zeros n ++ drop n b
+
+-- "the key bytes on the ring"
+abbrev pub blankKey : Key → Key
+blankKey k = record { len = k .len; descriptor = k .descriptor; bytes = blankStart (k .len) (k .bytes) }
+
+-- "the bytes of stored names in encrypted folders; the lengths of those names agree"
+abbrev pub blankEntry : Volume → Entry → Entry
+blankEntry v e =
+    record {
+      len = e .len;
+      parent = e .parent;
+      inode = e .inode;
+      name = cond ((inodeAt v (e .parent)) .encrypted) (blankStart (e .len) (e .name)) (e .name);
+    }
+
+-- "Shelves: they agree in everything but .."
+unfoldable pub blankVolume : Volume → Volume
+blankVolume v = record { keys = map blankKey (v .keys); inodes = v .inodes; entries = map (blankEntry v) (v .entries) }
+
+-- "of a name shown without the key the letters may differ, but not its length, its `_` or its two digits": up to 214 letters, or 214 between `_` and the digits
+unfoldable pub blankLetters : ℕ → Bytes → Bytes
+blankLetters n b = cond (leb n 214) (blankStart n b) (take 1 b ++ blankStart 214 (drop 1 b))
+
+unfoldable pub blankShown : Form → ℕ → Bytes → Bytes
+blankShown Plain n b = b
+blankShown Decrypted n b = b
+blankShown Encoded n b = blankLetters n b
+
+unfoldable pub blankName : Answer → Bytes → Bytes
+blankName (refused n) b = b
+blankName done b = b
+blankName (created i e) b = b
+blankName (at e) b = b
+blankName (policyIs p) b = b
+blankName (shown s) b = blankShown (s .form) (s .len) b
+
+-- a block that was refused stays
+unfoldable pub blankBlock : Answer → Bytes → Bytes
+blankBlock (refused n) b = b
+blankBlock done b = zeros (length b)
+blankBlock (created i e) b = b
+blankBlock (at e) b = b
+blankBlock (policyIs p) b = b
+blankBlock (shown s) b = b
+
+-- "Buffers: all bytes agree but those letters, the block of a seal or open that was done, and the key bytes lent to an add key."
+unfoldable pub blankBuffer : Request → Answer → Bytes → Bytes
+blankBuffer (addKey d k) a b = zeros (length b)
+blankBuffer (removeKey d) a b = b
+blankBuffer (setPolicy i p x) a b = b
+blankBuffer (getPolicy i) a b = b
+blankBuffer (create p kind n x) a b = b
+blankBuffer (link i p n) a b = b
+blankBuffer (rename e p n) a b = b
+blankBuffer (exchange c d) a b = b
+blankBuffer (remove e) a b = b
+blankBuffer (find p n) a b = b
+blankBuffer (show e lent) a b = blankName a b
+blankBuffer (seal i n lent) a b = blankBlock a b
+blankBuffer (unseal i n lent) a b = blankBlock a b
+
+-- "Answers: both runs give the same refusal number, or both succeed with the same answer": an answer stays whole, for show's name is in the lent buffer
+unfoldable pub blank : Moment → Moment
+blank m =
+    record {
+      request = blankRequest (m .request);
+      answer = m .answer;
+      buffer = blankBuffer (m .request) (m .answer) (m .buffer);
+      volume = blankVolume (m .volume);
+    }
+
+-- ---- given names: "these are read from either list and the answers of its run"
+
+abbrev pub Names : Type 0
+Names = ℕ → Option Bytes
+
+-- what a request names once it is done: nothing, the entry that it answers, or an entry of its own
+pub data Naming : Type 0 where
+  nothing : Naming
+  answered : (name : Bytes) → Naming
+  entry : (at : EntryNumber) (name : Bytes) → Naming
+
+-- "the one in the latest create or link that answered this place or, if later, in the latest rename of it that was done. Exchange doesn't change it."
+unfoldable pub naming : Request → Naming
+naming (addKey d k) = nothing
+naming (removeKey d) = nothing
+naming (setPolicy i p x) = nothing
+naming (getPolicy i) = nothing
+naming (create p kind n x) = answered n
+naming (link i p n) = answered n
+naming (rename e p n) = entry e n
+naming (exchange a b) = nothing
+naming (remove e) = nothing
+naming (find p n) = nothing
+naming (show e b) = nothing
+naming (seal i n b) = nothing
+naming (unseal i n b) = nothing
+
+abbrev pub onlyAt : EntryNumber → Bytes → Names
+onlyAt e′ n e = cond (eqb e (e′ .0)) (some n) none
+
+unfoldable pub named : Naming → Option EntryNumber → Names
+named nothing o e = none
+named (answered n) none e = none
+named (answered n) (some e′) e = onlyAt e′ n e
+named (entry e′ n) o e = onlyAt e′ n e
+
+-- the name that a request with this answer gives the entry e, if it gives it one
+unfoldable pub namedBy : Request → Answer → Names
+namedBy r (refused number) e = none
+namedBy r done e = named (naming r) none e
+namedBy r (created i e′) e = named (naming r) (some e′) e
+namedBy r (at e′) e = named (naming r) (some e′) e
+namedBy r (policyIs p) e = named (naming r) none e
+namedBy r (shown s) e = named (naming r) none e
+
+abbrev pub later : Option Bytes → Option Bytes → Option Bytes
+later (some n) earlier = some n
+later none earlier = earlier
+
+-- the given names after one more request
+abbrev pub after : Names → Request → Answer → Names
+after g r a e = later (namedBy r a e) (g e)
+
+unfoldable pub namesFrom : Names → List Moment → Names
+namesFrom g [] = g
+namesFrom g (m ∷ ms) = namesFrom (after g (m .request) (m .answer)) ms
+
+-- the names that the requests so far, oldest first, gave
+abbrev pub given : List Moment → Names
+given past = namesFrom (λ e. none) past
+
+-- "Whenever show answers with the form plain or read with the key, the name is the given one. In these runs show never says EUCLEAN."
+pub record NamesAsGiven (ms : List Moment) : Type 0 where
+  pub clean : (past next : List Moment) (m : Moment) → ms ≡ past ++ (m ∷ next) → (e : EntryNumber) (b : Bytes) → m .request ≡ show e b → m .answer ≢ refused (number EUCLEAN)
+  pub named : (past next : List Moment) (m : Moment) → ms ≡ past ++ (m ∷ next) → (e : EntryNumber) (b : Bytes) → m .request ≡ show e b
+      → (s : ShownEntry) → m .answer ≡ shown s → s .form ≢ Encoded → given past (e .0) ≡ some (take (s .len) (m .buffer))
+
+-- ---- the claim
+
+-- "after every request in them": two whole lists of moments are equal, once what may differ is blanked
+pub record Agree (ms₁ ms₂ : List Moment) : Type 0 where
+  pub same : map blank ms₁ ≡ map blank ms₂
+  pub names₁ : NamesAsGiven ms₁
+  pub names₂ : NamesAsGiven ms₂
+
+-- "For every two such lists"
+abbrev pub TwoRuns : Cipher → Type 0
+TwoRuns C = (rs₁ rs₂ : List Request) → AllTyped rs₁ → AllTyped rs₂ → SameButKeys rs₁ rs₂ → OneKeyEach rs₁ → OneKeyEach rs₂ → Agree (run C rs₁) (run C rs₂)
