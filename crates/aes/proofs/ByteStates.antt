@@ -5,7 +5,7 @@ use mathlib.Core.List.{List}
 use Prim.Native.Nat.{ℕ, zero, suc, _-_, _<_}
 use Rattle.field.specs.Field.{_⊕_, xTimes, dot}
 use Rattle.field.specs.SBox.{sBox, invSBox}
-use Rattle.aes.specs.Bytes.{ByteList}
+use Rattle.lists.specs.Bytes.{ByteList}
 use Rattle.aes.specs.Words.{mixColumn, invMixColumn, subWord, invSubWord, addWord, wordAt}
 use Rattle.aes.specs.States.{subBytes, invSubBytes, shiftRows, invShiftRows, mixColumns, invMixColumns, addRoundKey, stateAt}
 use Rattle.aes.specs.Cipher.{roundKey, round, rounds, lastRound, cipher, invRound, invRounds, invLastRound, invCipher}

@@ -4,7 +4,7 @@ use mathlib.Core.Path.{_≡_, refl, sym, ap, _∙_}
 use mathlib.Core.List.{List}
 use Prim.Native.Nat.{ℕ, zero, suc, _-_, _<_}
 use Rattle.field.specs.Field.{_⊕_}
-use Rattle.aes.specs.Bytes.{ByteList}
+use Rattle.lists.specs.Bytes.{ByteList}
 use Rattle.aes.specs.Words.{mixColumn, invMixColumn, subWord, invSubWord, addWord}
 use Rattle.aes.specs.States.{subBytes, invSubBytes, shiftRows, invShiftRows, mixColumns, invMixColumns, addRoundKey}
 use Rattle.aes.specs.Cipher.{roundKey, round, rounds, lastRound, cipher, invRound, invRounds, invLastRound, invCipher}

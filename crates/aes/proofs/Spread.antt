@@ -10,7 +10,8 @@ use lib.Seq.{getD-drop}
 use Rattle.field.specs.Field.{xTimes}
 use Rattle.aes.specs.Words.{wordAt, addWord, subWord, rotWord}
 use Rattle.aes.specs.States.{stateAt}
-use Rattle.aes.specs.Bytes.{wordBytes, stateBytes, ByteList}
+use Rattle.aes.specs.Bytes.{wordBytes, stateBytes}
+use Rattle.lists.specs.Bytes.{ByteList}
 use Rattle.aes.specs.KeyExpansion.{pick, xPower, rcon, temp, nextWord, expanded, keyExpansion}
 use Rattle.aes.specs.declared.Word.{Word}
 use Rattle.aes.specs.declared.State.{State}

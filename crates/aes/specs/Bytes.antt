@@ -1,7 +1,7 @@
 -- Words and states as bytes of a list, FIPS 197 section 3.4. Assumes nothing.
 use mathlib.Core.List.{List, [], _∷_, _++_}
-use Prim.Native.Nat.{ℕ, _+_, _<_}
-use lib.ListN.{length, take, drop, getD}
+use Prim.Native.Nat.{ℕ, _+_}
+use lib.ListN.{length, take, drop}
 use Rattle.aes.specs.declared.Word.{Word}
 use Rattle.aes.specs.declared.State.{State}
 
@@ -15,7 +15,3 @@ stateBytes s = wordBytes (s .c0) ++ wordBytes (s .c1) ++ wordBytes (s .c2) ++ wo
 -- the list with the bytes xs in place of its own from a place on
 unfoldable pub putAt : List ℕ → ℕ → List ℕ → List ℕ
 putAt l i xs = take i l ++ xs ++ drop (i + length xs) l
-
--- a list of bytes
-abbrev pub ByteList : List ℕ → Type 0
-ByteList l = (i : ℕ) → getD l i 0 < 256

@@ -6,7 +6,7 @@ use mathlib.Core.List.{List}
 use Prim.Native.Nat.{ℕ, _+_, _*_, _/_, _≤_, _<_}
 use native.Mathlib.Omega.{arith}
 use lib.ListN.{length, take, drop}
-use Rattle.aes.specs.Bytes.{ByteList}
+use Rattle.lists.specs.Bytes.{ByteList}
 use Rattle.aes.specs.KeyExpansion.{KeySize, roundsOf, keyExpansion}
 use Rattle.aes.specs.declared.State.{State}
 use Rattle.aes.proofs.ByteStates.{ByteState, cipher-bytes}

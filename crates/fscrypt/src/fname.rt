@@ -9,7 +9,7 @@ ghost use mathlib.Core.List.{[], _++_};
 ghost use Prim.Native.Nat.{_≤_, max};
 ghost use lib.ListN.{length, take, drop};
 ghost use Rattle.errno.specs.Refusals.{isFine};
-ghost use Rattle.lists.specs.Bytes.{zeros, same, firstAt, laidOver};
+ghost use Rattle.lists.specs.Bytes.{zeros, firstAt, laidOver};
 ghost use Rattle.fscrypt.specs.Cipher.{fscrypt, encryptName, decryptName};
 ghost use Rattle.fscrypt.specs.Names.{isNul, isNulOrSlash, isByte, isDotName, isBadName, nameCheck, multiple, paddedLength, padded, isAllNul, beforeNul, readPadded, nameBytes, packed};
 ghost use Rattle.fscrypt.specs.Names;
@@ -64,29 +64,13 @@ fn is_all_nul(s: &[u8]) -> bool
     true
 }
 
-pub fn same_bytes(a: &[u8], b: &[u8]) -> bool
-    ensures { λ r. ⌜ r ≡ same (now (a .entry)) (now (b .entry)) ⌝ }
-{
-    if b.len() != a.len() {
-        return false;
-    }
-    let mut i: usize = 0;
-    while i < a.len() {
-        if a[i] != b[i] {
-            return false;
-        }
-        i += 1;
-    }
-    true
-}
-
 fn is_dot_name(name: &[u8]) -> bool
     ensures { λ r. ⌜ r ≡ isDotName (now (name .entry)) ⌝ }
 {
-    if same_bytes(name, b".") {
+    if lists::same_bytes(name, b".") {
         return true;
     }
-    same_bytes(name, b"..")
+    lists::same_bytes(name, b"..")
 }
 
 // A NUL or a `/` is in it, or it is `.` or `..`.

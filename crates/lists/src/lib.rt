@@ -1,1 +1,20 @@
-// Byte strings and tables: definitions and laws, and no function.
+// Byte strings and tables: definitions, laws, and the one comparison.
+ghost use mathlib.Core.Path.{_≡_};
+ghost use Rattle.lists.specs.Bytes.{same};
+
+// Whether two byte strings are equal.
+pub fn same_bytes(a: &[u8], b: &[u8]) -> bool
+    ensures { λ r. ⌜ r ≡ same (now (a .entry)) (now (b .entry)) ⌝ }
+{
+    if b.len() != a.len() {
+        return false;
+    }
+    let mut i: usize = 0;
+    while i < a.len() {
+        if a[i] != b[i] {
+            return false;
+        }
+        i += 1;
+    }
+    true
+}

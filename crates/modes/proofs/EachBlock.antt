@@ -5,7 +5,8 @@ use mathlib.Core.List.{List, _++_}
 use Prim.Native.Nat.{ℕ, zero, suc, _*_}
 use lib.ListN.{length}
 use Rattle.aes.specs.States.{stateAt}
-use Rattle.aes.specs.Bytes.{stateBytes, ByteList}
+use Rattle.aes.specs.Bytes.{stateBytes}
+use Rattle.lists.specs.Bytes.{ByteList}
 use Rattle.aes.specs.Cipher.{cipher}
 use Rattle.aes.specs.declared.State.{State}
 use Rattle.aes.proofs.ByteStates.{cipher-bytes}

@@ -6,7 +6,7 @@ use native.Mathlib.Omega.{arith}
 use lib.Dec.{lit<}
 use lib.ListN.{length, getD}
 use Rattle.aes.specs.States.{addRoundKey, stateAt}
-use Rattle.aes.specs.Bytes.{ByteList}
+use Rattle.lists.specs.Bytes.{ByteList}
 use Rattle.aes.specs.Cipher.{cipher, invCipher}
 use Rattle.aes.specs.declared.Word.{Word}
 use Rattle.aes.specs.declared.State.{State}

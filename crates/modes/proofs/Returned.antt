@@ -8,7 +8,8 @@ use native.Mathlib.Omega.{arith}
 use lib.ListN.{length, take, drop, getD, length-append, length-take, take-append-drop}
 use Rattle.aes.specs.Words.{wordAt}
 use Rattle.aes.specs.States.{addRoundKey, stateAt}
-use Rattle.aes.specs.Bytes.{stateBytes, ByteList}
+use Rattle.aes.specs.Bytes.{stateBytes}
+use Rattle.lists.specs.Bytes.{ByteList}
 use Rattle.aes.specs.Cipher.{cipher, invCipher}
 use Rattle.aes.specs.declared.Word.{Word}
 use Rattle.aes.specs.declared.State.{State}

@@ -7,7 +7,8 @@ use native.Mathlib.Numerals.{add-one}
 use native.Mathlib.Omega.{arith}
 use lib.ListN.{length, take, drop, getD, length-append, drop-of-length-le}
 use lib.Seq.{take-at, drop-drop, drop-append-add, getD-append-add, getD-drop}
-use Rattle.aes.specs.Bytes.{putAt, wordBytes, stateBytes, ByteList}
+use Rattle.aes.specs.Bytes.{putAt, wordBytes, stateBytes}
+use Rattle.lists.specs.Bytes.{ByteList}
 use Rattle.aes.specs.Words.{wordAt}
 use Rattle.aes.specs.States.{stateAt}
 use Rattle.aes.specs.declared.Word.{Word}

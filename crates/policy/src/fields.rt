@@ -3,7 +3,7 @@ use crate::Policy;
 ghost use mathlib.Core.Path.{_≡_};
 ghost use Prim.Native.Nat.{_≤_};
 ghost use lib.ListN.{length, take, drop};
-ghost use Rattle.lists.specs.Bytes.{zeros, same};
+ghost use Rattle.lists.specs.Bytes.{zeros};
 ghost use Rattle.policy.specs.Policies.{policyAt};
 
 pub fn zeros8() -> [u8; 8]
@@ -16,23 +16,6 @@ pub fn zeros16() -> [u8; 16]
     ensures { λ r. ⌜ r ≡ zeros 16 ⌝ }
 {
     [0u8; 16]
-}
-
-// Whether two byte strings are equal.
-pub fn same(a: &[u8], b: &[u8]) -> bool
-    ensures { λ r. ⌜ r ≡ Rattle.lists.specs.Bytes.same (now (a .entry)) (now (b .entry)) ⌝ }
-{
-    if b.len() != a.len() {
-        return false;
-    }
-    let mut i: usize = 0;
-    while i < a.len() {
-        if a[i] != b[i] {
-            return false;
-        }
-        i += 1;
-    }
-    true
 }
 
 // A policy of this version, whose modes, flags and descriptor stand in the bytes from 1 to 11.

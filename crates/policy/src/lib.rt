@@ -69,7 +69,7 @@ pub fn same_policy(a: Policy, b: Policy) -> bool
     }
     let x = a.descriptor;
     let y = b.descriptor;
-    fields::same(&x, &y)
+    lists::same_bytes(&x, &y)
 }
 
 fn no_policy() -> Policy

@@ -24,18 +24,18 @@ returns-4 : tie.Need-returns-4
 unfolding samePolicy
 returns-4 c = search predicates depth 12
 
-slice-aggregate-same : tie.Need-slice-aggregate-same
-slice-aggregate-same c =
+slice-aggregate-same-bytes : tie.Need-slice-aggregate-same-bytes
+slice-aggregate-same-bytes c =
     let s = c .before .before .before .before .before .before .before .before .before .before .before .before .before .before .before in
     sym (descriptor-length (s .args .a) (s .good .0))
 
-slice-aggregate-same-2 : tie.Need-slice-aggregate-same-2
-slice-aggregate-same-2 c =
+slice-aggregate-same-bytes-2 : tie.Need-slice-aggregate-same-bytes-2
+slice-aggregate-same-bytes-2 c =
     let s = c .before .before .before .before .before .before .before .before .before .before .before .before .before .before .before .before in
     sym (descriptor-length (s .args .b) (s .good .1 .0))
 
-same-requires : tie.Need-same-requires
-same-requires c κs = search needs
+same-bytes-requires : tie.Need-same-bytes-requires
+same-bytes-requires c κs = search needs
 
 returns-5 : tie.Need-returns-5
 unfolding samePolicy
@@ -44,7 +44,7 @@ returns-5 c =
     let n = f .before .before .before in
     let k = n .before .before .before in
     let v = k .before .before .before in
-    let flags = and-go _ _ _ (eq-eqb _ _ (f .if4 .left)) (c .same .ensures) in
+    let flags = and-go _ _ _ (eq-eqb _ _ (f .if4 .left)) (c .same-bytes .ensures) in
     let names = and-go _ _ _ (eq-eqb _ _ (n .if3 .left)) flags in
     and-go _ _ _ (eq-eqb _ _ (v .if1 .left)) (and-go _ _ _ (eq-eqb _ _ (k .if2 .left)) names)
 
@@ -56,7 +56,7 @@ same-policy-spec =
     returns-2
     returns-3
     returns-4
-    slice-aggregate-same
-    slice-aggregate-same-2
-    same-requires
+    slice-aggregate-same-bytes
+    slice-aggregate-same-bytes-2
+    same-bytes-requires
     returns-5)

@@ -1,12 +1,13 @@
--- `fscrypt::fname::same_bytes` meets its contract. The loop's invariant: the two are the same if what is left of them is. Assumes nothing.
+-- `same` tests whether two byte strings are equal. The loop's invariant: they are the same where what is left of both is (`Agree`).
+-- The measure is what is left of the length. Assumes nothing.
 use mathlib.Core.Path.{_≡_, refl, sym}
 use Prim.Native.Nat.{_≤_, _-_}
 use native.Mathlib.Omega.{arith}
 use lib.ListN.{length}
+use Rattle.lists.proofs.Loops.{Agree, agree-length, differ, agree, agree-all}
 use borrow.Author.Needs.{needs}
-use Rattle.lists.proofs.Loops.{Agree, agree-length, differ, agree, agree-all}
-use Rattle.fscrypt.proofs.fname.same_bytes.Statement.{statement}
-use Rattle.fscrypt.proofs.fname.same_bytes.Tie as tie
+use Rattle.lists.proofs.same_bytes.Statement.{statement}
+use Rattle.lists.proofs.same_bytes.Tie as tie
 
 abbrev Inv-loop : tie.InvT-loop
 Inv-loop a b i₀ i = (i ≤ length a) × (length b ≡ length a) × Agree a b i
