@@ -21,10 +21,10 @@ marks e = hexDigit (e / 16 % 16) ∷ hexDigit (e % 16) ∷ []
 pub encoded-long : (s : Bytes) (e : ℕ) → 160 < length s → encoded s e ≡ 95 ∷ (letters (take 160 s) ++ marks e)
 encoded-long s e h = lettering.encoded-long s e h
 
-length-short : (s : Bytes) (e : ℕ) → length s ≤ 160 → length (encoded s e) ≡ (4 * length s + 2) / 3
+pub length-short : (s : Bytes) (e : ℕ) → length s ≤ 160 → length (encoded s e) ≡ (4 * length s + 2) / 3
 length-short s e h = ap length (encoded-short s e h) ∙ length-letters s
 
-length-long : (s : Bytes) (e : ℕ) → 160 < length s → length (encoded s e) ≡ 217
+pub length-long : (s : Bytes) (e : ℕ) → 160 < length s → length (encoded s e) ≡ 217
 length-long s e h = omega (arith, ap length (encoded-long s e h), length-append (letters (take 160 s)) (marks e), length-front s h)
 
 pub encoded-length-low : (s : Bytes) (e : ℕ) → 1 ≤ length s → 1 ≤ length (encoded s e)

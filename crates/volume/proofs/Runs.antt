@@ -1,0 +1,343 @@
+-- The two runs of demand 3, proved for all thirteen requests and for any lawful cipher. Each list by itself is compared with its identity run, that of the same
+-- list with zeros for keys; the two lists have one identity run, since they agree but for their keys. Assumes nothing.
+use Prim.Native.Nat.{ℕ, zero, suc}
+use mathlib.Core.Path.{_≡_, refl, sym, _∙_, ap, ap₂, subst, subst₂}
+use mathlib.Core.Logic.{_≢_, _⊎_, inl, inr}
+use mathlib.Core.Bool.{Bool, true, false, cond, not, true≢false, false≢true}
+use mathlib.Core.List.{List, [], _∷_, _++_, map, List·Memᴰ, List·Memᴰ·not-nil, List·Memᴰ·cases-cons, List·Memᴰ·head, List·Memᴰ·tail}
+use mathlib.Core.Option.{Option, some, none}
+use lib.ListN.{length, getD, take, drop, replicate, length-replicate, take-append-drop}
+use lib.Seq.{drop-at}
+use lib.Dec.{T, eqb, lit<}
+use Rattle.lists.specs.Bytes.{Bytes, ByteList, same, zeros, laidOver}
+use Rattle.lists.proofs.Tests.{same-eq, same-self, if-true, if-false}
+use Rattle.lists.proofs.Tables.{all-set}
+use Rattle.errno.specs.Refusals.{number}
+use Rattle.errno.specs.declared.Errno.the-variants.{EUCLEAN}
+use Rattle.errno.specs.declared.Checked.{Checked}
+use Rattle.fscrypt.specs.Cipher.{Cipher, Lawful}
+use Rattle.fscrypt.proofs.Padding.{length-zeros}
+use Rattle.volume.specs.Volume.{noKey, noInode, plainInode, noEntry, nameOf, fresh}
+use Rattle.volume.specs.Request.{Request, addKey, removeKey, setPolicy, getPolicy, create, link, rename, exchange, remove, find, show, seal, unseal, Answer, refused, Outcome}
+use Rattle.volume.specs.Lookup.{isFreeKey, inodeAt, isVacant}
+use Rattle.volume.specs.Step.{lent, settle, step}
+use Rattle.volume.specs.Run.{Moment, momentOf, runFrom, run}
+use Rattle.volume.specs.Sound.{slotAt}
+use Rattle.volume.specs.TwoRuns.{Typed, AllTyped, blankRequest, OneKeyEach, blankKey, blankEntry, blankVolume, blankBuffer, blank, Names, namedBy, after, namesFrom, given, NamesAsGiven, TwoRuns}
+use Rattle.volume.specs.declared.Key.{Key}
+use Rattle.volume.specs.declared.Inode.{Inode}
+use Rattle.volume.specs.declared.Entry.{Entry}
+use Rattle.volume.specs.declared.Volume.{Volume}
+use Rattle.volume.specs.declared.Form.{Form}
+use Rattle.volume.specs.declared.Form.the-variants.{Plain, Decrypted, Encoded}
+use Rattle.volume.proofs.Twin.{identity, Setting, Alike, both-refuse, both-fine, keyFor, encName, encKey, encEntry, enc, KeyOk, InodeOk, EntryOk, Inv, Fits, ShownForm, ShownRight, StepTwin, Same}
+use Rattle.volume.proofs.TwinLookup.{enc-length}
+use Rattle.volume.proofs.TwinKeys.{addKey-twin, removeKey-twin, getPolicy-twin, find-twin, seal-twin, unseal-twin}
+use Rattle.volume.proofs.TwinNames.{setPolicy-twin, create-twin, link-twin, rename-twin}
+use Rattle.volume.proofs.TwinMoves.{exchange-twin, remove-twin}
+use Rattle.volume.proofs.TwinShow.{show-twin}
+
+-- ---- one request
+
+request-twin : (S : Setting) {g : Names} (v : Volume) (ok : Inv S g v) (r : Request) → Typed r → Fits S r → Same S g v r (blankRequest r)
+unfolding blankRequest
+request-twin S v ok (addKey d k) t h = addKey-twin S v ok d k (h d k refl)
+request-twin S v ok (removeKey d) t h = removeKey-twin S v ok d
+request-twin S v ok (setPolicy i p x) t h = setPolicy-twin S v ok i p x (t .2)
+request-twin S v ok (getPolicy i) t h = getPolicy-twin S v ok i
+request-twin S v ok (create p kind n x) t h = create-twin S v ok p kind n x (t .0) (t .2)
+request-twin S v ok (link i p n) t h = link-twin S v ok i p n t
+request-twin S v ok (rename e p n) t h = rename-twin S v ok e p n t
+request-twin S v ok (exchange a b) t h = exchange-twin S v ok a b
+request-twin S v ok (remove e) t h = remove-twin S v ok e
+request-twin S v ok (find p n) t h = find-twin S v ok p n t
+request-twin S v ok (show e b) t h = show-twin S v ok e b
+request-twin S v ok (seal i n b) t h = seal-twin S v ok i n b
+request-twin S v ok (unseal i n b) t h = unseal-twin S v ok i n b
+
+-- the key that a request offers under this descriptor, or else these bytes
+offered : Request → Bytes → Bytes → Bytes
+offered (addKey d′ k) d k₀ = cond (same d′ d) k k₀
+offered (removeKey d′) d k₀ = k₀
+offered (setPolicy i p x) d k₀ = k₀
+offered (getPolicy i) d k₀ = k₀
+offered (create p kind n x) d k₀ = k₀
+offered (link i p n) d k₀ = k₀
+offered (rename e p n) d k₀ = k₀
+offered (exchange a b) d k₀ = k₀
+offered (remove e) d k₀ = k₀
+offered (find p n) d k₀ = k₀
+offered (show e b) d k₀ = k₀
+offered (seal i n b) d k₀ = k₀
+offered (unseal i n b) d k₀ = k₀
+
+-- a request adds a key, or it has none
+data Sorted : Request → Type 0 where
+  adds : (d k : Bytes) → Sorted (addKey d k)
+  keyless : {r : Request} → blankRequest r ≡ r → ((d k₀ : Bytes) → offered r d k₀ ≡ k₀) → Sorted r
+
+sorted : (r : Request) → Sorted r
+unfolding blankRequest offered
+sorted (addKey d k) = adds d k
+sorted (removeKey d) = keyless refl (λ d k. refl)
+sorted (setPolicy i p x) = keyless refl (λ d k. refl)
+sorted (getPolicy i) = keyless refl (λ d k. refl)
+sorted (create p kind n x) = keyless refl (λ d k. refl)
+sorted (link i p n) = keyless refl (λ d k. refl)
+sorted (rename e p n) = keyless refl (λ d k. refl)
+sorted (exchange a b) = keyless refl (λ d k. refl)
+sorted (remove e) = keyless refl (λ d k. refl)
+sorted (find p n) = keyless refl (λ d k. refl)
+sorted (show e b) = keyless refl (λ d k. refl)
+sorted (seal i n b) = keyless refl (λ d k. refl)
+sorted (unseal i n b) = keyless refl (λ d k. refl)
+
+blank-lent : (r : Request) (n : ℕ) → blankBuffer r (refused n) (lent r) ≡ blankBuffer r (refused n) (lent (blankRequest r))
+unfolding blankBuffer blankRequest lent
+blank-lent r n = go (sorted r)
+  where
+    go : {r : Request} → Sorted r → blankBuffer r (refused n) (lent r) ≡ blankBuffer r (refused n) (lent (blankRequest r))
+    go (adds d k) = ap zeros (sym (length-zeros (length k)))
+    go (keyless {r} e f) = ap (λ (q : Request). blankBuffer r (refused n) (lent q)) (sym e)
+
+blank-same : (r : Request) (a : Answer) (b : Bytes) → blankBuffer r a b ≡ blankBuffer (blankRequest r) a b
+unfolding blankBuffer blankRequest
+blank-same r a b = go (sorted r)
+  where
+    go : {r : Request} → Sorted r → blankBuffer r a b ≡ blankBuffer (blankRequest r) a b
+    go (adds d k) = refl
+    go (keyless e f) = ap (λ (q : Request). blankBuffer q a b) (sym e)
+
+blank-blank : (r : Request) → blankRequest (blankRequest r) ≡ blankRequest r
+unfolding blankRequest
+blank-blank r = go (sorted r)
+  where
+    go : {r : Request} → Sorted r → blankRequest (blankRequest r) ≡ blankRequest r
+    go (adds d k) = ap (λ (n : ℕ). addKey d (zeros n)) (length-zeros (length k))
+    go (keyless e f) = ap blankRequest e
+
+shown-refused : (g : Names) (r : Request) (n : ℕ) (b : Bytes) → T (not (eqb n (number EUCLEAN))) → ShownRight g r (refused n) b
+shown-refused g (addKey d k) n b t = tt
+shown-refused g (removeKey d) n b t = tt
+shown-refused g (setPolicy i p x) n b t = tt
+shown-refused g (getPolicy i) n b t = tt
+shown-refused g (create p kind m x) n b t = tt
+shown-refused g (link i p m) n b t = tt
+shown-refused g (rename e p m) n b t = tt
+shown-refused g (exchange c d) n b t = tt
+shown-refused g (remove e) n b t = tt
+shown-refused g (find p m) n b t = tt
+shown-refused g (show e lent) n b t = t
+shown-refused g (seal i m lent) n b t = tt
+shown-refused g (unseal i m lent) n b t = tt
+
+-- ---- runs
+
+-- every show of a run answers right, where the names before it are by g
+abbrev RunRight : Names → List Moment → Type 0
+RunRight g [] = Unit {0}
+RunRight g (m ∷ ms) = ShownRight g (m .request) (m .answer) (m .buffer) × RunRight (after g (m .request) (m .answer)) ms
+
+record RunTwin (g : Names) (ms ms′ : List Moment) : Type 0 where
+  same-run : map blank ms ≡ map blank ms′
+  right-run : RunRight g ms
+
+module _ {A B D : Type 0} where
+  map-map : (f : B → D) (h : A → B) (k : A → D) (l : List A) (d : A) → ((i : ℕ) → f (h (getD l i d)) ≡ k (getD l i d)) → map f (map h l) ≡ map k l
+  map-map f h k [] d e = refl
+  map-map f h k (x ∷ xs) d e = ap₂ _∷_ (e 0) (map-map f h k xs d (λ i. e (suc i)))
+
+getD-all : {A : Type 0} (n i : ℕ) (d : A) → getD (replicate n d) i d ≡ d
+getD-all zero i d = refl
+getD-all (suc n) zero d = refl
+getD-all (suc n) (suc i) d = getD-all n i d
+
+module _ (S : Setting) where
+  abbrev AllFit : List Request → Type 0
+  AllFit [] = Unit {0}
+  AllFit (r ∷ rs) = Typed r × Fits S r × AllFit rs
+
+  settle-twin : {g : Names} (v : Volume) → Inv S g v → (r : Request) {k k′ : Checked} {o o′ : Outcome} → Alike (StepTwin S r g o o′) k k′
+      → StepTwin S r g (settle (enc S v) (lent r) k o) (settle v (lent (blankRequest r)) k′ o′)
+  unfolding settle namedBy
+  settle-twin {g} v ok r (both-refuse e t) =
+      record { answers = refl; buffers = blank-lent r (number e); volumes = refl; inv = ok; right = shown-refused g r (number e) (lent r) t }
+  settle-twin v ok r (both-fine s) = s
+
+  step-twin : {g : Names} (v : Volume) → Inv S g v → (r : Request) → Typed r → Fits S r → StepTwin S r g (step (S .cipher) (enc S v) r) (step identity v (blankRequest r))
+  unfolding step Same
+  step-twin v ok r t h = settle-twin v ok r (request-twin S v ok r t h)
+
+  -- blanked, the two volumes are one
+  blank-key : (k : Key) → KeyOk S k → blankKey (encKey S k) ≡ blankKey k
+  blank-key k h = λ i. record { len = k .len; descriptor = k .descriptor; bytes = zeros (k .len) ++ go (isFreeKey k) h i }
+    where
+      go : (u : Bool) → (u ≡ false → length (S .key (k .descriptor)) ≡ k .len)
+          → drop (k .len) (cond u (k .bytes) (laidOver (k .bytes) (S .key (k .descriptor)))) ≡ drop (k .len) (k .bytes)
+      go true h = refl
+      go false h = drop-at (S .key (k .descriptor)) (drop (length (S .key (k .descriptor))) (k .bytes)) (k .len) (h refl) ∙ ap (λ (n : ℕ). drop n (k .bytes)) (h refl)
+
+  blank-entry : {g : Names} (v : Volume) (e : ℕ) (x : Entry) → (isVacant x ≡ false → EntryOk S g (inodeAt v (x .parent)) e x)
+      → blankEntry (enc S v) (encEntry S (v .inodes) x) ≡ blankEntry v x
+  blank-entry {g} v e x h = λ i. record { len = x .len; parent = x .parent; inode = x .inode; name = go (isVacant x) (dir .encrypted) refl h i }
+    where
+      dir : Inode
+      dir = inodeAt v (x .parent)
+
+      coded : Bytes
+      coded = encName S dir (nameOf x) ++ drop (x .len) (x .name)
+
+      go : (u c : Bool) → dir .encrypted ≡ c → (u ≡ false → EntryOk S g dir e x)
+          → cond c (zeros (x .len) ++ drop (x .len) (cond u (x .name) coded)) (cond u (x .name) coded) ≡ cond c (zeros (x .len) ++ drop (x .len) (x .name)) (x .name)
+      go true c q w = refl
+      go false true q w =
+          ap (zeros (x .len) ++_) (drop-at (encName S dir (nameOf x)) (drop (x .len) (x .name)) (x .len) (enc-length S dir (nameOf x) ∙ w refl .is-sized))
+      go false false q w =
+          ap (_++ drop (x .len) (x .name)) (if-false (S .cipher .encryptName (keyFor S dir) (nameOf x)) (nameOf x) q) ∙ take-append-drop (x .len) (x .name)
+
+  blank-volume : {g : Names} (v : Volume) → Inv S g v → blankVolume (enc S v) ≡ blankVolume v
+  unfolding blankVolume
+  blank-volume v ok = λ i. record {
+    keys = map-map blankKey (encKey S) blankKey (v .keys) noKey (λ j. blank-key (getD (v .keys) j noKey) (ok .keys-ok j)) i;
+    inodes = v .inodes;
+    entries = map-map (blankEntry (enc S v)) (encEntry S (v .inodes)) (blankEntry v) (v .entries) noEntry (λ j. blank-entry v j (slotAt v j) (ok .entries-ok j)) i;
+  }
+
+  moment-twin : {g : Names} (r : Request) (o o′ : Outcome) → StepTwin S r g o o′ → blank (momentOf r o) ≡ blank (momentOf (blankRequest r) o′)
+  unfolding blank momentOf
+  moment-twin r o o′ s = λ i. record {
+    request = sym (blank-blank r) i;
+    answer = s .answers i;
+    buffer = (s .buffers ∙ blank-same r (o′ .answer) (o′ .buffer)) i;
+    volume = (ap blankVolume (s .volumes) ∙ blank-volume (o′ .volume) (s .inv)) i;
+  }
+
+  run-twin : (rs : List Request) → AllFit rs → {g : Names} (v v° : Volume) → v° ≡ enc S v → Inv S g v
+      → RunTwin g (runFrom (S .cipher) v° rs) (runFrom identity v (map blankRequest rs))
+  unfolding runFrom momentOf
+  run-twin [] fit v v° e ok = record { same-run = refl; right-run = tt }
+  run-twin (r ∷ rs) fit {g} v v° e ok =
+      let s = step-twin v ok r (fit .0) (fit .1) in
+      let o : Outcome = step (S .cipher) (enc S v) r in
+      let o′ : Outcome = step identity v (blankRequest r) in
+      let w : Inv S (after g r (o .answer)) (o′ .volume) = subst (λ (x : Answer). Inv S (after g r x) (o′ .volume)) (sym (s .answers)) (s .inv) in
+      let t = run-twin rs (fit .2) (o′ .volume) (o .volume) (s .volumes) w in
+      subst (λ (w : Volume). RunTwin g (momentOf r (step (S .cipher) w r) ∷ runFrom (S .cipher) ((step (S .cipher) w r) .volume) rs)
+      (momentOf (blankRequest r) (step identity v (blankRequest r)) ∷ runFrom identity ((step identity v (blankRequest r)) .volume) (map blankRequest rs))) (sym e)
+      (record { same-run = ap₂ _∷_ (moment-twin r o o′ s) (t .same-run); right-run = (s .right, t .right-run) })
+
+  -- the fresh volume
+  fresh-ok : Inv S (λ e. none) fresh
+  unfolding fresh
+  fresh-ok =
+      record {
+        keys-ok = λ i u. absurd (true≢false (sym (ap isFreeKey (getD-all 8 i noKey)) ∙ u));
+        inodes-ok = all-set (λ j y. InodeOk S y) (replicate 64 noInode) noInode 0 (plainInode 1) (λ j u. absurd (false≢true u))
+            (λ j ne u. absurd (false≢true (sym (ap (λ (y : Inode). y .encrypted) (getD-all 64 j noInode)) ∙ u))) (λ u. absurd (false≢true u));
+        entries-ok = λ i u. absurd (true≢false (sym (ap isVacant (getD-all 64 i noEntry)) ∙ u));
+        sized = length-replicate 64 noEntry;
+      }
+
+  fresh-enc : fresh ≡ enc S fresh
+  unfolding fresh
+  fresh-enc = refl
+
+  fresh-twin : (rs : List Request) → AllFit rs → RunTwin (λ e. none) (run (S .cipher) rs) (run identity (map blankRequest rs))
+  fresh-twin rs fit = run-twin rs fit fresh fresh fresh-enc fresh-ok
+
+-- ---- given names
+
+-- where every show answers right, each answers right by the names before it
+right-at : (past : List Moment) (m : Moment) (next : List Moment) (g : Names) → RunRight g (past ++ (m ∷ next))
+    → ShownRight (namesFrom g past) (m .request) (m .answer) (m .buffer)
+unfolding namesFrom
+right-at [] m next g h = h .0
+right-at (p ∷ past) m next g h = right-at past m next (after g (p .request) (p .answer)) (h .1)
+
+names-given : (ms : List Moment) → RunRight (λ e. none) ms → NamesAsGiven ms
+names-given ms h =
+    record {
+      clean = λ past next m q e b r w. right past next m q r w;
+      named = λ past next m q e b r s w f. go (given past (e .0)) (s .form) (s .len) (m .buffer) (right past next m q r w) f;
+    }
+  where
+    right : (past next : List Moment) (m : Moment) → ms ≡ past ++ (m ∷ next) → {r : Request} {a : Answer} → m .request ≡ r → m .answer ≡ a → ShownRight (given past) r a (m .buffer)
+    right past next m q p w =
+        subst₂ (λ (x : Request) (y : Answer). ShownRight (given past) x y (m .buffer)) p w (right-at past m next (λ e. none) (subst (RunRight (λ e. none)) q h))
+
+    go : (o : Option Bytes) (form : Form) (n : ℕ) (b : Bytes) → ShownForm o form n b → form ≢ Encoded → o ≡ some (take n b)
+    go o Plain n b s f = s
+    go o Decrypted n b s f = s
+    go o Encoded n b s f = absurd (f refl)
+
+-- ---- the keys of a list
+
+keyIn : List Request → Bytes → Bytes
+keyIn [] d = []
+keyIn (r ∷ rs) d = offered r d (keyIn rs d)
+
+-- a descriptor that is offered a key is offered the key of the list
+offered-own : (d k k₀ : Bytes) → offered (addKey d k) d k₀ ≡ k
+unfolding offered
+offered-own d k k₀ = if-true k k₀ (same-self d)
+
+offered-or : (r : Request) (rs : List Request) (d k₀ : Bytes) → List·Memᴰ (addKey d k₀) rs → List·Memᴰ (addKey d (offered r d k₀)) (r ∷ rs)
+unfolding offered
+offered-or r rs d k₀ m = go (sorted r)
+  where
+    pick : (d′ k : Bytes) (b : Bool) → same d′ d ≡ b → List·Memᴰ (addKey d (cond b k k₀)) (addKey d′ k ∷ rs)
+    pick d′ k true e = List·Memᴰ·head (ap (λ (x : Bytes). addKey x k) (sym (same-eq d′ d e)))
+    pick d′ k false e = List·Memᴰ·tail m
+
+    go : {r : Request} → Sorted r → List·Memᴰ (addKey d (offered r d k₀)) (r ∷ rs)
+    go (adds d′ k) = pick d′ k (same d′ d) refl
+    go (keyless {r} e f) = subst (λ (k : Bytes). List·Memᴰ (addKey d k) (r ∷ rs)) (sym (f d k₀)) (List·Memᴰ·tail m)
+
+key-offered : (rs : List Request) (d k : Bytes) → List·Memᴰ (addKey d k) rs → List·Memᴰ (addKey d (keyIn rs d)) rs
+unfolding keyIn
+key-offered [] d k m = absurd (List·Memᴰ·not-nil m)
+key-offered (r ∷ rs) d k m = go (List·Memᴰ·cases-cons m) (key-offered rs d k)
+  where
+    go : (addKey d k ≡ r) ⊎ List·Memᴰ (addKey d k) rs → (List·Memᴰ (addKey d k) rs → List·Memᴰ (addKey d (keyIn rs d)) rs)
+        → List·Memᴰ (addKey d (offered r d (keyIn rs d))) (r ∷ rs)
+    go (inl e) ih = List·Memᴰ·head (ap (addKey d) (ap (λ (y : Request). offered y d (keyIn rs d)) (sym e) ∙ offered-own d k (keyIn rs d)) ∙ e)
+    go (inr m) ih = offered-or r rs d (keyIn rs d) (ih m)
+
+offered-bytes : (r : Request) (d k : Bytes) → Typed r → ByteList k → ByteList (offered r d k)
+unfolding offered
+offered-bytes r d k t h = go (sorted r) t
+  where
+    pick : (b : Bool) (k′ : Bytes) → ByteList k′ → ByteList (cond b k′ k)
+    pick true k′ w = w
+    pick false k′ w = h
+
+    go : {r : Request} → Sorted r → Typed r → ByteList (offered r d k)
+    go (adds d′ k′) t = pick (same d′ d) k′ (t .2)
+    go (keyless e f) t = subst ByteList (sym (f d k)) h
+
+key-bytes : (rs : List Request) → AllTyped rs → (d : Bytes) → ByteList (keyIn rs d)
+unfolding keyIn
+key-bytes [] t d = λ i. lit< tt
+key-bytes (r ∷ rs) t d = offered-bytes r d (keyIn rs d) (t r (List·Memᴰ·head refl)) (key-bytes rs (λ q m. t q (List·Memᴰ·tail m)) d)
+
+all-fit : (S : Setting) (rs : List Request) → AllTyped rs → ((d k : Bytes) → List·Memᴰ (addKey d k) rs → S .key d ≡ k) → AllFit S rs
+all-fit S [] t h = tt
+all-fit S (r ∷ rs) t h = (t r (List·Memᴰ·head refl), (λ d k e. h d k (List·Memᴰ·head e)), all-fit S rs (λ q m. t q (List·Memᴰ·tail m)) (λ d k m. h d k (List·Memᴰ·tail m)))
+
+-- ---- the theorem
+
+-- a list with one key for each descriptor has the run of the list without keys, blanked
+own-run : (C : Cipher) → Lawful C → (rs : List Request) → AllTyped rs → OneKeyEach rs → RunTwin (λ e. none) (run C rs) (run identity (map blankRequest rs))
+own-run C law rs t one =
+    let S : Setting = record { cipher = C; lawful = law; key = keyIn rs; key-bytes = key-bytes rs t } in
+    fresh-twin S rs (all-fit S rs t (λ d k m. one d (keyIn rs d) k (key-offered rs d k m) m))
+
+pub two-runs : (C : Cipher) → Lawful C → TwoRuns C
+two-runs C law rs₁ rs₂ typed₁ typed₂ agree one₁ one₂ =
+    let t₁ = own-run C law rs₁ typed₁ one₁ in
+    let t₂ = own-run C law rs₂ typed₂ one₂ in
+    record {
+      same = t₁ .same-run ∙ ap (λ (rs : List Request). map blank (run identity rs)) agree ∙ sym (t₂ .same-run);
+      names₁ = names-given (run C rs₁) (t₁ .right-run);
+      names₂ = names-given (run C rs₂) (t₂ .right-run);
+    }

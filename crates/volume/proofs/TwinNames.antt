@@ -1,0 +1,166 @@
+-- The two runs: set policy, and the requests that store a name: create, link and rename. Whether a name is taken is the same in both runs, for names under one key
+-- are equal exactly where their ciphertexts are. Assumes nothing.
+use Prim.Native.Nat.{ℕ}
+use mathlib.Core.Path.{_≡_, refl, sym, _∙_, ap}
+use mathlib.Core.Bool.{Bool, true, false, cond, not, _&&_, false≢true}
+use mathlib.Core.List.{List, [], map}
+use lib.ListN.{getD, set}
+use lib.Seq.{getD-set-other}
+use lib.Dec.{eqb, leb, ltb}
+use Rattle.lists.specs.Bytes.{Bytes, ByteList, firstAt}
+use Rattle.lists.proofs.Tests.{eqb-self}
+use Rattle.lists.proofs.Tables.{all-set, firstAt-passes}
+use Rattle.policy.specs.Policies.{policyCheck, readPolicy}
+use Rattle.volume.specs.Volume.{noInode, plainInode, encryptedInode, entrySlot}
+use Rattle.volume.specs.Request.{setPolicy, create, link, rename, done, created, at, outcome}
+use Rattle.volume.specs.Lookup.{keyNeeded, inodeAt, isFree, freeInode, nonceHolder, entryAt, isVacant, freeEntry, hasEntries, isUnderItself}
+use Rattle.volume.specs.Checks.{isPolicyRefused, isNonceNeeded, stored, setPolicyCheck, createCheck, linkCheck, renameCheck}
+use Rattle.volume.specs.Step.{withInodes, withEntries, childOf, check, effect}
+use Rattle.volume.specs.Sound.{slotAt, Used, dirOf}
+use Rattle.volume.specs.TwoRuns.{Names, blankBuffer, namedBy, naming, named}
+use Rattle.volume.specs.declared.InodeNumber.{InodeNumber}
+use Rattle.volume.specs.declared.EntryNumber.{EntryNumber}
+use Rattle.volume.specs.declared.Inode.{Inode}
+use Rattle.volume.specs.declared.Entry.{Entry}
+use Rattle.volume.specs.declared.Volume.{Volume}
+use Rattle.volume.proofs.Twin.{Setting, Alike, test, part, both-fine, encKey, dirIn, encEntry, enc, InodeOk, Inv, StepTwin, Same}
+use Rattle.volume.proofs.TwinLookup.{needed-twin, entry-twin, free-entry-twin, child-twin, under-twin, entryNamed-twin, name-part, directory-part}
+use Rattle.volume.proofs.TwinStore.{no-child, kept-inv, kept-enc, store-inv, store-enc}
+
+module _ (S : Setting) {g : Names} (v : Volume) (ok : Inv S g v) where
+  policy-part : (p : Bytes) → Alike (Unit {0}) (policyCheck p) (policyCheck p)
+  unfolding policyCheck
+  policy-part p =
+      test _ tt refl λ h₁.
+      test _ tt refl λ h₂.
+      both-fine tt
+
+  -- one inode changes, for one whose nonce is bytes
+  nonces-set : (i : ℕ) (x : Inode) → InodeOk S x → (j : ℕ) → InodeOk S (getD (set (v .inodes) i x) j noInode)
+  nonces-set i x h = all-set (λ j y. InodeOk S y) (v .inodes) noInode i x (λ j u. absurd (false≢true u)) (λ j ne. ok .inodes-ok j) h
+
+  pub setPolicy-twin : (i : InodeNumber) (p x : Bytes) → ByteList x → Same S g v (setPolicy i p x) (setPolicy i p x)
+  unfolding Same check effect setPolicyCheck nonceHolder namedBy naming named blankBuffer
+  setPolicy-twin i p x xb =
+      let node = inodeAt v i in
+      test _ tt refl λ h₁.
+      part (policy-part p) λ h₂.
+      test _ tt refl λ h₃.
+      test _ tt refl λ h₄.
+      test _ tt refl λ h₅.
+      test _ tt (ap (λ (n : ℕ). not (node .encrypted) && ltb n 64) (child-twin S v ok i)) λ h₆.
+      test _ tt refl λ h₇.
+      both-fine (go (node .encrypted) h₆)
+    where
+      is′ : List Inode
+      is′ = set (v .inodes) (i .0) (encryptedInode 1 ((readPolicy p) .policy) x)
+
+      nonces : (j : ℕ) → InodeOk S (getD is′ j noInode)
+      nonces = nonces-set (i .0) (encryptedInode 1 ((readPolicy p) .policy) x) (λ u. xb)
+
+      kept : hasEntries v i ≡ false → (j : ℕ) → Used v j
+          → dirIn is′ (slotAt v j) ≡ dirOf v j
+      kept h j u =
+          let a = no-child S v ok i h j u in
+          getD-set-other (v .inodes) (i .0) ((slotAt v j) .parent .0) _ noInode (λ e. false≢true (sym a ∙ ap (λ (k : ℕ). eqb k (i .0)) e ∙ eqb-self (i .0)))
+
+      go : (c : Bool) → (not c && hasEntries v i) ≡ false
+          → StepTwin S (setPolicy i p x) g (outcome done [] (cond c (enc S v) (withInodes (enc S v) is′))) (outcome done [] (cond c v (withInodes v is′)))
+      go true h = record { answers = refl; buffers = refl; volumes = refl; inv = ok; right = tt }
+      go false h = record { answers = refl; buffers = refl; volumes = kept-enc S v ok is′ nonces (kept h); inv = kept-inv S v ok is′ nonces (kept h); right = tt }
+
+  child-ok : (dir : Inode) (kind : ℕ) (x : Bytes) → ByteList x → InodeOk S (childOf dir kind x)
+  unfolding childOf
+  child-ok dir kind x xb = go (isNonceNeeded dir kind)
+    where
+      go : (c : Bool) → InodeOk S (cond c (encryptedInode kind (dir .context .policy) x) (plainInode kind))
+      go true = λ u. xb
+      go false = λ u. absurd (false≢true u)
+
+  pub create-twin : (p : InodeNumber) (kind : ℕ) (n x : Bytes) → ByteList n → ByteList x → Same S g v (create p kind n x) (create p kind n x)
+  unfolding Same check effect createCheck nonceHolder freeInode namedBy naming named blankBuffer
+  create-twin p kind n x nb xb =
+      part (name-part S v ok n) λ plain.
+      test _ tt refl λ h₁.
+      part (directory-part S v ok p) λ dir.
+      test _ tt (needed-twin S v ok (inodeAt v p)) λ key.
+      test _ tt (ap (λ (m : ℕ). ltb m 64) (entryNamed-twin S v ok p n key nb)) λ h₂.
+      test _ tt refl λ h₃.
+      test _ tt refl λ h₄.
+      test _ tt (ap (leb 64) (free-entry-twin S v ok)) λ h₅.
+      let e : EntryNumber = record { 0 = freeEntry v } in
+      both-fine (record {
+        answers = ap (λ (m : ℕ). created i (record { 0 = m })) (free-entry-twin S v ok);
+        buffers = refl;
+        volumes = ap (λ (m : ℕ). record {
+          keys = map (encKey S) (v .keys);
+          inodes = is′;
+          entries = set (map (encEntry S (v .inodes)) (v .entries)) m (entrySlot p i (stored (S .cipher) (enc S v) (inodeAt v p) n));
+        }) (free-entry-twin S v ok)
+            ∙ store-enc S v ok is′ nonces stays p e i n (kept p dir) dir plain nb key;
+        inv = store-inv S v ok is′ nonces stays p e i n (kept p dir) dir plain nb key;
+        right = tt;
+      })
+    where
+      i : InodeNumber
+      i = record { 0 = firstAt isFree (v .inodes) }
+
+      is′ : List Inode
+      is′ = set (v .inodes) (i .0) (childOf (inodeAt v p) kind x)
+
+      nonces : (j : ℕ) → InodeOk S (getD is′ j noInode)
+      nonces = nonces-set (i .0) (childOf (inodeAt v p) kind x) (child-ok (inodeAt v p) kind x xb)
+
+      -- a directory is not the free inode that is taken
+      kept : (q : InodeNumber) → (inodeAt v q) .kind ≡ 1 → getD is′ (q .0) noInode ≡ inodeAt v q
+      kept q k = getD-set-other (v .inodes) (i .0) (q .0) _ noInode λ e.
+          let f : eqb ((inodeAt v q) .kind) 0 ≡ true = ap (λ (m : ℕ). eqb ((getD (v .inodes) m noInode) .kind) 0) e ∙ firstAt-passes isFree (v .inodes) noInode refl in
+          false≢true (ap (λ (m : ℕ). eqb m 0) (sym k) ∙ f)
+
+      stays : (j : ℕ) → Used v j → dirIn is′ (slotAt v j) ≡ dirOf v j
+      stays j u = kept ((slotAt v j) .parent) (ok .entries-ok j u .in-directory)
+
+  pub link-twin : (i p : InodeNumber) (n : Bytes) → ByteList n → Same S g v (link i p n) (link i p n)
+  unfolding Same check effect linkCheck namedBy naming named blankBuffer
+  link-twin i p n nb =
+      part (name-part S v ok n) λ plain.
+      test _ tt refl λ h₁.
+      part (directory-part S v ok p) λ dir.
+      test _ tt refl λ h₂.
+      test _ tt (needed-twin S v ok (inodeAt v p)) λ key.
+      test _ tt refl λ h₃.
+      test _ tt (ap (λ (m : ℕ). ltb m 64) (entryNamed-twin S v ok p n key nb)) λ h₄.
+      test _ tt (ap (leb 64) (free-entry-twin S v ok)) λ h₅.
+      let e : EntryNumber = record { 0 = freeEntry v } in
+      both-fine (record {
+        answers = ap (λ (m : ℕ). at (record { 0 = m })) (free-entry-twin S v ok);
+        buffers = refl;
+        volumes = ap (λ (m : ℕ). withEntries (enc S v) (set (map (encEntry S (v .inodes)) (v .entries)) m (entrySlot p i (stored (S .cipher) (enc S v) (inodeAt v p) n))))
+            (free-entry-twin S v ok)
+            ∙ store-enc S v ok (v .inodes) (ok .inodes-ok) (λ j u. refl) p e i n refl dir plain nb key;
+        inv = store-inv S v ok (v .inodes) (ok .inodes-ok) (λ j u. refl) p e i n refl dir plain nb key;
+        right = tt;
+      })
+
+  pub rename-twin : (e : EntryNumber) (p : InodeNumber) (n : Bytes) → ByteList n → Same S g v (rename e p n) (rename e p n)
+  unfolding Same check effect renameCheck namedBy naming named blankBuffer
+  rename-twin e p n nb =
+      let o = entry-twin S v ok e in
+      let i : InodeNumber = (entryAt v e) .inode in
+      part (name-part S v ok n) λ plain.
+      test _ tt (ap isVacant o) λ h₁.
+      part (directory-part S v ok p) λ dir.
+      test _ tt (ap (λ (x : Entry). keyNeeded (enc S v) (inodeAt v (x .parent))) o ∙ needed-twin S v ok (inodeAt v ((entryAt v e) .parent))) λ h₂.
+      test _ tt (needed-twin S v ok (inodeAt v p)) λ key.
+      test _ tt (ap (λ (x : Entry). isPolicyRefused (inodeAt v p) (inodeAt v (x .inode))) o) λ h₃.
+      test _ tt (ap (λ (x : Entry). isUnderItself (enc S v) (x .inode) p) o ∙ under-twin S v ok i p) λ h₄.
+      test _ tt (ap (λ (m : ℕ). ltb m 64) (entryNamed-twin S v ok p n key nb)) λ h₅.
+      both-fine (record {
+        answers = refl;
+        buffers = refl;
+        volumes = ap (λ (x : Entry). withEntries (enc S v)
+            (set (map (encEntry S (v .inodes)) (v .entries)) (e .0) (entrySlot p (x .inode) (stored (S .cipher) (enc S v) (inodeAt v p) n)))) o
+            ∙ store-enc S v ok (v .inodes) (ok .inodes-ok) (λ j u. refl) p e i n refl dir plain nb key;
+        inv = store-inv S v ok (v .inodes) (ok .inodes-ok) (λ j u. refl) p e i n refl dir plain nb key;
+        right = tt;
+      })
