@@ -3,3 +3,4 @@ pub mod Tests
 pub mod Tables
 pub mod Loops
 pub mod Predicates
+pub mod Slots

@@ -1,6 +1,23 @@
 -- The laws of volume. Public are those that a crate above cites.
 mod Starred
 mod Example
+-- every reachable volume is sound
+mod SoundPolicy
+mod SoundCore
+mod SoundClimb
+mod SoundInvariant
+mod SoundKeys
+mod SoundSetPolicy
+mod SoundLink
+mod SoundRename
+mod SoundCreate
+mod SoundExchange
+mod SoundRemove
+pub mod Soundness
+pub mod PolicyClause
+pub mod Bytewise
+pub mod SealedOpens
+-- the two runs
 mod Twin
 mod TwinLookup
 mod TwinKeys

@@ -6,5 +6,7 @@ pub mod Checks
 pub mod Step
 pub mod Run
 pub mod Sound
+pub mod PolicyClause
+pub mod SealedOpens
 pub mod TwoRuns
 pub mod Cases

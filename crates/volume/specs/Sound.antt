@@ -62,6 +62,7 @@ pub record Sound (v : Volume) : Type 0 where
   pub entry-slots : length (v .entries) ≡ entrySlots
   -- "each an 8-byte descriptor and a master key of 16, 32, 48 or 64 bytes"; a descriptor is on the keyring once
   pub key-lengths : (k : ℕ) → isFreeKey (keyAt v k) ≡ false → isBadKeyLength ((keyAt v k) .len) ≡ false
+  pub key-sizes : (k : ℕ) → length (keyBytes (keyAt v k)) ≡ (keyAt v k) .len
   pub descriptors : (k : ℕ) → length ((keyAt v k) .descriptor) ≡ 8
   pub descriptors-apart : (j k : ℕ) → isFreeKey (keyAt v j) ≡ false → isFreeKey (keyAt v k) ≡ false → (keyAt v j) .descriptor ≡ (keyAt v k) .descriptor → j ≡ k
   -- "Thing 0 is the root folder; it always exists and is never encrypted."
@@ -72,6 +73,7 @@ pub record Sound (v : Volume) : Type 0 where
   -- "A place joins a parent folder, a thing and a stored name of 1 to 255 bytes."
   pub parents : (e : ℕ) → Used v e → (dirOf v e) .kind ≡ 1
   pub inodes-in-use : (e : ℕ) → Used v e → isFree (nodeOf v e) ≡ false
+  pub name-sizes : (e : ℕ) → length (nameOf (slotAt v e)) ≡ (slotAt v e) .len
   pub name-lengths : (e : ℕ) → Used v e → (0 < length (nameOf (slotAt v e))) × (length (nameOf (slotAt v e)) ≤ 255)
   -- "A thing other than the root has one place or more; a folder has exactly one."
   pub root-unheld : (e : ℕ) → Used v e → (slotAt v e) .inode .0 ≢ 0

@@ -1,0 +1,4 @@
+-- The laws of lookup.
+pub mod Shape
+mod Search
+mod Ascent

@@ -1,0 +1,58 @@
+-- `is_under_itself` is `isUnderItself`: the moved inode is a directory, and the climb meets it. Assumes nothing.
+use mathlib.Core.Path.{sym, _∙_}
+use Rattle.lists.proofs.Predicates.{predicates}
+use Rattle.volume.specs.Lookup.{isUnderItself}
+use borrow.Author.Needs.{needs}
+use Rattle.lookup.proofs.climb.is_under_itself.Statement.{statement}
+use Rattle.lookup.proofs.climb.is_under_itself.Tie as tie
+
+inode-at-requires : tie.Need-inode-at-requires
+inode-at-requires c κs = search needs
+
+returns : tie.Need-returns
+unfolding isUnderItself
+returns c = rw (← c .before .before .inode-at .ensures) (search predicates depth 12)
+
+climb-requires : tie.Need-climb-requires
+climb-requires c κs = search needs
+
+enum-told : tie.Need-enum-told
+enum-told c = search needs
+
+enum-told-2 : tie.Need-enum-told-2
+enum-told-2 c = search needs
+
+enum-told-3 : tie.Need-enum-told-3
+enum-told-3 c = search needs
+
+returns-2 : tie.Need-returns-2
+unfolding isUnderItself
+returns-2 c =
+    let m = c .before .before in
+    rw (← m .before .before .before .inode-at .ensures, sym (m .climb .ensures) ∙ c .enum-told .given .1) (search predicates depth 12)
+
+returns-3 : tie.Need-returns-3
+unfolding isUnderItself
+returns-3 c =
+    let m = c .before .before in
+    rw (← m .before .before .before .inode-at .ensures, sym (m .climb .ensures) ∙ c .enum-told2 .given .1) (search predicates depth 12)
+
+returns-4 : tie.Need-returns-4
+unfolding isUnderItself
+returns-4 c =
+    let m = c .before .before in
+    rw (← m .before .before .before .inode-at .ensures, sym (m .climb .ensures) ∙ c .enum-told3 .given .1) (search predicates depth 12)
+
+pub is-under-itself-spec : {M : Type 1} → statement M
+is-under-itself-spec =
+    tie.close
+    (tie.spec
+    inode-at-requires
+    returns
+    climb-requires
+    enum-told
+    enum-told-2
+    enum-told-3
+    returns-2
+    returns-3
+    returns-4)

@@ -1,0 +1,16 @@
+-- `is_held` is `isHeld`: the search ended before the table's end. Assumes nothing.
+use mathlib.Core.Path.{ap}
+use Prim.Native.Nat.{ℕ}
+use lib.Dec.{ltb}
+use borrow.Author.Needs.{needs}
+use Rattle.lookup.proofs.entries.is_held.Statement.{statement}
+use Rattle.lookup.proofs.entries.is_held.Tie as tie
+
+first-link-requires : tie.Need-first-link-requires
+first-link-requires c κs = search needs
+
+returns : tie.Need-returns
+returns c = ap (λ (n : ℕ). ltb n 64) (c .first-link .ensures)
+
+pub is-held-spec : {M : Type 1} → statement M
+is-held-spec = tie.close (tie.spec first-link-requires returns)

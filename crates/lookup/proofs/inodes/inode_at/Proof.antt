@@ -1,0 +1,35 @@
+-- `inode_at` is `inodeAt`: within the table a read, and past its end the free record. Assumes nothing.
+use mathlib.Core.Path.{sym, _∙_}
+use native.Mathlib.Omega.{arith}
+use lib.ListN.{List·getD-eq-default}
+use Rattle.volume.specs.Volume.{noInode}
+use Rattle.lists.proofs.Tables.{getD-any}
+use Rattle.lookup.proofs.Shape.{shaped}
+use borrow.Author.Needs.{needs}
+use Rattle.lookup.proofs.inodes.inode_at.Statement.{statement}
+use Rattle.lookup.proofs.inodes.inode_at.Tie as tie
+
+mul-result : tie.Need-mul-result
+mul-result c = search needs
+
+element-copy-out-result : tie.Need-element-copy-out-result
+element-copy-out-result c = search needs
+
+returns : tie.Need-returns
+returns c =
+    let s = c .before .before .before in
+    let k = shaped (s .args .t1) (s .good .0) .inodes in
+    getD-any (s .args .t1 .inodes) (s .args .n .0) _ _ (omega arith)
+
+blank-inode-requires : tie.Need-blank-inode-requires
+blank-inode-requires c κs = search needs
+
+returns-2 : tie.Need-returns-2
+returns-2 c =
+    let s = c .before .before .before in
+    let k = shaped (s .args .t1) (s .good .0) .inodes in
+    c .blank-inode .ensures ∙ sym (List·getD-eq-default (s .args .t1 .inodes) noInode {n = s .args .n .0} (omega arith))
+
+pub inode-at-spec : {M : Type 1} → statement M
+inode-at-spec =
+    tie.close (tie.spec mul-result element-copy-out-result returns blank-inode-requires returns-2)

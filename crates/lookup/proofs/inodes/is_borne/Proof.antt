@@ -1,0 +1,16 @@
+-- `is_borne` is `isBorne`: the search ended before the table's end. Assumes nothing.
+use mathlib.Core.Path.{ap}
+use Prim.Native.Nat.{ℕ}
+use lib.Dec.{ltb}
+use borrow.Author.Needs.{needs}
+use Rattle.lookup.proofs.inodes.is_borne.Statement.{statement}
+use Rattle.lookup.proofs.inodes.is_borne.Tie as tie
+
+nonce-holder-requires : tie.Need-nonce-holder-requires
+nonce-holder-requires c κs = search needs
+
+returns : tie.Need-returns
+returns c = ap (λ (n : ℕ). ltb n 64) (c .nonce-holder .ensures)
+
+pub is-borne-spec : {M : Type 1} → statement M
+is-borne-spec = tie.close (tie.spec nonce-holder-requires returns)

@@ -1,0 +1,166 @@
+// Directory entries: which has a number, where there is room, which a directory has, which has a name there, and which holds an inode.
+use crate::ENTRY_SLOTS;
+use crate::bytes;
+use fscrypt::Name;
+use volume::Entry;
+use volume::EntryNumber;
+use volume::InodeNumber;
+use volume::Volume;
+ghost use mathlib.Core.Path.{_≡_};
+ghost use Rattle.lists.specs.Bytes.{same};
+ghost use Rattle.fscrypt.specs.Names.{nameBytes};
+ghost use Rattle.volume.specs.Volume.{noEntry, nameOf};
+ghost use Rattle.volume.specs.Lookup.{entryAt, isVacant, freeEntry, isIn, isNamed, entryNamed, isTaken, firstChild, hasEntries, isLink, firstLink, isHeld};
+
+// A free record: all zeros.
+pub fn blank_entry() -> Entry
+    ensures { λ r. ⌜ r ≡ noEntry ⌝ }
+{
+    let b = bytes::zeros255();
+    Entry {
+        len: 0,
+        parent: InodeNumber(0),
+        inode: InodeNumber(0),
+        name: b,
+    }
+}
+
+// The entry of this number, and a free record where there is none.
+pub fn entry_at(v: Volume, n: EntryNumber) -> Entry
+    ensures { λ r. ⌜ r ≡ entryAt v n ⌝ }
+{
+    if n.0 < ENTRY_SLOTS as u64 {
+        let i = n.0 as usize;
+        return v.entries[i];
+    }
+    blank_entry()
+}
+
+// A record is free if its name has no bytes.
+fn is_vacant(e: Entry) -> bool
+    ensures { λ r. ⌜ r ≡ isVacant e ⌝ }
+{
+    e.len == 0
+}
+
+// The lowest free number, or the number of slots.
+pub fn free_entry(v: Volume) -> usize
+    ensures { λ r. ⌜ r ≡ freeEntry v ⌝ }
+{
+    let mut i: usize = 0;
+    while i < ENTRY_SLOTS {
+        let e = v.entries[i];
+        if is_vacant(e) {
+            return i;
+        }
+        i += 1;
+    }
+    i
+}
+
+// Whether the entry is in use and stands in this directory.
+fn is_in(e: Entry, p: InodeNumber) -> bool
+    ensures { λ r. ⌜ r ≡ isIn p e ⌝ }
+{
+    if e.len == 0 {
+        return false;
+    }
+    e.parent.0 == p.0
+}
+
+// The first entry of this directory, or the number of slots.
+pub fn first_child(v: Volume, p: InodeNumber) -> usize
+    ensures { λ r. ⌜ r ≡ firstChild v p ⌝ }
+{
+    let mut i: usize = 0;
+    while i < ENTRY_SLOTS {
+        let e = v.entries[i];
+        if is_in(e, p) {
+            return i;
+        }
+        i += 1;
+    }
+    i
+}
+
+// Whether this directory has entries.
+pub fn has_entries(v: Volume, p: InodeNumber) -> bool
+    ensures { λ r. ⌜ r ≡ hasEntries v p ⌝ }
+{
+    first_child(v, p) < ENTRY_SLOTS
+}
+
+// Whether the entry has this stored name, byte for byte.
+fn same_name(e: Entry, s: Name) -> bool
+    ensures { λ r. ⌜ r ≡ same (nameOf e) (nameBytes s) ⌝ }
+{
+    let a = e.name;
+    let m = e.len as usize;
+    let b = s.bytes;
+    let n = s.len as usize;
+    lists::same_bytes(&a[..m], &b[..n])
+}
+
+// Whether the entry is in use, stands in this directory and has this stored name.
+fn is_named(e: Entry, p: InodeNumber, s: Name) -> bool
+    ensures { λ r. ⌜ r ≡ isNamed p (nameBytes s) e ⌝ }
+{
+    if !is_in(e, p) {
+        return false;
+    }
+    same_name(e, s)
+}
+
+// The entry of this directory with this stored name, or the number of slots.
+pub fn entry_named(v: Volume, p: InodeNumber, s: Name) -> usize
+    ensures { λ r. ⌜ r ≡ entryNamed v p (nameBytes s) ⌝ }
+{
+    let mut i: usize = 0;
+    while i < ENTRY_SLOTS {
+        let e = v.entries[i];
+        if is_named(e, p, s) {
+            return i;
+        }
+        i += 1;
+    }
+    i
+}
+
+// Whether this directory has an entry with this stored name.
+pub fn is_taken(v: Volume, p: InodeNumber, s: Name) -> bool
+    ensures { λ r. ⌜ r ≡ isTaken v p (nameBytes s) ⌝ }
+{
+    entry_named(v, p, s) < ENTRY_SLOTS
+}
+
+// Whether the entry is in use and holds this inode.
+fn is_link(e: Entry, i: InodeNumber) -> bool
+    ensures { λ r. ⌜ r ≡ isLink i e ⌝ }
+{
+    if e.len == 0 {
+        return false;
+    }
+    e.inode.0 == i.0
+}
+
+// The first entry that holds this inode, or the number of slots. It takes the table alone, so that one can be asked that an entry was taken out of.
+pub fn first_link(entries: [Entry; 64], n: InodeNumber) -> usize
+    ensures { λ r. ⌜ r ≡ firstLink entries n ⌝ }
+{
+    let mut i: usize = 0;
+    while i < ENTRY_SLOTS {
+        let e = entries[i];
+        if is_link(e, n) {
+            return i;
+        }
+        i += 1;
+    }
+    i
+}
+
+// Whether an entry holds this inode.
+pub fn is_held(entries: [Entry; 64], n: InodeNumber) -> bool
+    ensures { λ r. ⌜ r ≡ isHeld entries n ⌝ }
+{
+    first_link(entries, n) < ENTRY_SLOTS
+}

@@ -1,0 +1,113 @@
+// Inodes: which has a number, where there is room, and which bears a nonce.
+use crate::INODE_SLOTS;
+use crate::bytes;
+use policy::Context;
+use policy::Policy;
+use volume::Inode;
+use volume::InodeNumber;
+use volume::Volume;
+ghost use mathlib.Core.Path.{_≡_};
+ghost use Rattle.volume.specs.Volume.{noInode};
+ghost use Rattle.volume.specs.Checks.{isNonceNeeded};
+ghost use Rattle.volume.specs.Lookup.{inodeAt, isFree, freeInode, bearsNonce, nonceHolder, isBorne};
+
+// A free record: all zeros.
+pub fn blank_inode() -> Inode
+    ensures { λ r. ⌜ r ≡ noInode ⌝ }
+{
+    let d = bytes::zeros8();
+    let x = bytes::zeros16();
+    let p = Policy {
+        version: 0,
+        contents: 0,
+        names: 0,
+        flags: 0,
+        descriptor: d,
+    };
+    let c = Context {
+        policy: p,
+        nonce: x,
+    };
+    Inode {
+        kind: 0,
+        encrypted: false,
+        context: c,
+    }
+}
+
+// The inode of this number, and a free record where there is none.
+pub fn inode_at(v: Volume, n: InodeNumber) -> Inode
+    ensures { λ r. ⌜ r ≡ inodeAt v n ⌝ }
+{
+    if n.0 < INODE_SLOTS as u64 {
+        let i = n.0 as usize;
+        return v.inodes[i];
+    }
+    blank_inode()
+}
+
+// A record is free if its inode has no kind.
+fn is_free_inode(i: Inode) -> bool
+    ensures { λ r. ⌜ r ≡ isFree i ⌝ }
+{
+    i.kind == 0
+}
+
+// The lowest free number, or the number of slots.
+pub fn free_inode(v: Volume) -> usize
+    ensures { λ r. ⌜ r ≡ freeInode v ⌝ }
+{
+    let mut i: usize = 0;
+    while i < INODE_SLOTS {
+        let n = v.inodes[i];
+        if is_free_inode(n) {
+            return i;
+        }
+        i += 1;
+    }
+    i
+}
+
+// Whether the inode has a context with this nonce.
+fn bears_nonce(i: Inode, x: [u8; 16]) -> bool
+    ensures { λ r. ⌜ r ≡ bearsNonce x i ⌝ }
+{
+    if !i.encrypted {
+        return false;
+    }
+    let c = i.context;
+    let own = c.nonce;
+    lists::same_bytes(&own, &x)
+}
+
+// The first inode that bears this nonce, or the number of slots.
+pub fn nonce_holder(v: Volume, x: [u8; 16]) -> usize
+    ensures { λ r. ⌜ r ≡ nonceHolder v x ⌝ }
+{
+    let mut i: usize = 0;
+    while i < INODE_SLOTS {
+        let n = v.inodes[i];
+        if bears_nonce(n, x) {
+            return i;
+        }
+        i += 1;
+    }
+    i
+}
+
+// Whether an inode bears this nonce.
+pub fn is_borne(v: Volume, x: [u8; 16]) -> bool
+    ensures { λ r. ⌜ r ≡ isBorne v x ⌝ }
+{
+    nonce_holder(v, x) < INODE_SLOTS
+}
+
+// Whether a child of this directory has a context.
+pub fn is_nonce_needed(dir: Inode, kind: u64) -> bool
+    ensures { λ r. ⌜ r ≡ isNonceNeeded dir kind ⌝ }
+{
+    if !dir.encrypted {
+        return false;
+    }
+    kind <= 3
+}

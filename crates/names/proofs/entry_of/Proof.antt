@@ -1,0 +1,24 @@
+-- `entry_of`: the search for the name as the directory stores it. Assumes nothing.
+use Rattle.names.proofs.Reading.{entry-by}
+use Rattle.fscrypt.specs.Cipher.{fscrypt}
+use Rattle.volume.specs.Lookup.{keyNeeded}
+use mathlib.Core.Path.{_≡_, ap, _∙_}
+use borrow.Author.Needs.{needs}
+use Rattle.names.proofs.entry_of.Statement.{statement}
+use Rattle.names.proofs.entry_of.Tie as tie
+
+inode-at-requires : tie.Need-inode-at-requires
+inode-at-requires c κs = search needs
+
+stored-name-requires : tie.Need-stored-name-requires
+stored-name-requires c κs = (c .before .before .pre .0, ap (keyNeeded _) (c .inode-at .ensures) ∙ c .before .before .pre .1)
+
+entry-named-requires : tie.Need-entry-named-requires
+entry-named-requires c κs = search needs
+
+returns : tie.Need-returns
+returns c = entry-by fscrypt _ _ _ (c .before .before .inode-at .result) (c .before .stored-name .result) _ (c .before .before .inode-at .ensures) (c .before .stored-name .ensures) (c .entry-named .ensures)
+
+pub entry-of-spec : {M : Type 1} → statement M
+entry-of-spec =
+    tie.close (tie.spec inode-at-requires stored-name-requires entry-named-requires returns)

@@ -1,0 +1,2 @@
+-- The definitions of names.
+pub mod Shown

@@ -1,0 +1,94 @@
+// Names in the directories of a volume: as they are stored, and as they are shown.
+use errno::Checked;
+use fscrypt::Name;
+use fscrypt::NameRead;
+use fscrypt::encode;
+use fscrypt::fname;
+use fscrypt::keysetup;
+use lookup::keyring;
+use volume::Entry;
+use volume::EntryNumber;
+use volume::Inode;
+use volume::InodeNumber;
+use volume::Volume;
+ghost use mathlib.Core.Path.{_≡_};
+ghost use mathlib.Core.Bool.{true, false};
+ghost use Prim.Native.Nat.{_≤_};
+ghost use lib.ListN.{length};
+ghost use Rattle.fscrypt.specs.Cipher.{fscrypt};
+ghost use Rattle.fscrypt.specs.Names.{packed};
+ghost use Rattle.volume.specs.Volume.{nameOf};
+ghost use Rattle.volume.specs.Lookup.{inodeAt, keyPresent, keyNeeded, entryNamed};
+ghost use Rattle.volume.specs.Checks.{derivedKey, stored};
+ghost use Rattle.names.specs.Shown.{shownRead};
+
+// The key derived for an inode whose master key is held.
+pub fn derived_key(v: Volume, n: Inode) -> [u8; 64]
+    requires { ⌜ keyPresent v n ≡ true ⌝ }
+    ensures { λ r. ⌜ r ≡ derivedKey fscrypt v n ⌝ }
+{
+    let c = n.context;
+    let p = c.policy;
+    let d = p.descriptor;
+    let k = keyring::key_of(v, d);
+    let master = k.bytes;
+    let x = c.nonce;
+    keysetup::derive_key(master, x)
+}
+
+// A plain name as this directory stores it.
+pub fn stored_name(v: Volume, dir: Inode, name: &[u8]) -> Name
+    requires { ⌜ length (now name) ≤ 255 ⌝ }
+    requires { ⌜ keyNeeded v dir ≡ false ⌝ }
+    ensures { λ r. ⌜ r ≡ packed (stored fscrypt v dir (now (name .entry))) ⌝ }
+{
+    if !dir.encrypted {
+        return fname::pack(name);
+    }
+    let c = dir.context;
+    let p = c.policy;
+    let key = derived_key(v, dir);
+    fname::encrypt_name(key, p.flags, name)
+}
+
+// The entry that bears this name in the directory, or the number of slots.
+pub fn entry_of(v: Volume, p: InodeNumber, name: &[u8]) -> usize
+    requires { ⌜ length (now name) ≤ 255 ⌝ }
+    requires { ⌜ keyNeeded v (inodeAt v p) ≡ false ⌝ }
+    ensures { λ r. ⌜ r ≡ entryNamed v p (stored fscrypt v (inodeAt v p) (now (name .entry))) ⌝ }
+{
+    let dir = lookup::inodes::inode_at(v, p);
+    lookup::entries::entry_named(v, p, stored_name(v, dir, name))
+}
+
+fn name_of(e: Entry) -> Name
+    ensures { λ r. ⌜ r ≡ packed (nameOf e) ⌝ }
+{
+    let bytes = e.name;
+    let len = e.len as usize;
+    fname::pack(&bytes[..len])
+}
+
+// The stored name of an entry of this directory as it is shown, or EUCLEAN.
+pub fn shown_name(v: Volume, dir: Inode, n: EntryNumber, e: Entry) -> NameRead
+    ensures { λ r. ⌜ r ≡ shownRead fscrypt v dir n (nameOf e) ⌝ }
+{
+    let name = name_of(e);
+    if !dir.encrypted {
+        return NameRead {
+            checked: Checked::Fine,
+            name: name,
+        };
+    }
+    if !keyring::key_present(v, dir) {
+        let letters = encode::encode_name(name, n.0);
+        return NameRead {
+            checked: Checked::Fine,
+            name: letters,
+        };
+    }
+    let c = dir.context;
+    let p = c.policy;
+    let key = derived_key(v, dir);
+    fname::decrypt_name(key, p.flags, name)
+}

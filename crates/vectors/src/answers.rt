@@ -1,0 +1,95 @@
+// What is written to standard output.
+use crate::hex;
+use crate::hex::MOST_DIGITS;
+use errno::Checked;
+use errno::Errno;
+use libc::STDOUT_FILENO;
+ghost use mathlib.Core.Path.{_≡_};
+ghost use Prim.Native.Nat.{_≤_};
+ghost use lib.ListN.{length};
+ghost use Rattle.errno.specs.Refusals.{number};
+
+pub fn malformed() {
+    io::write_all(STDOUT_FILENO, b"malformed\n");
+}
+
+pub fn echo(line: &[u8]) {
+    io::write_all(STDOUT_FILENO, line);
+    io::write_all(STDOUT_FILENO, b"\n");
+}
+
+fn room() -> [u8; MOST_DIGITS]
+    ensures { λ r. ⌜ 8400 ≡ length r ⌝ }
+{
+    [0u8; MOST_DIGITS]
+}
+
+// A byte string, as a request writes it.
+fn write_bytes(b: &[u8])
+    requires { ⌜ length (now b) ≤ 4200 ⌝ }
+{
+    if b.len() == 0 {
+        io::write_all(STDOUT_FILENO, b"-");
+        return;
+    }
+    let mut text = room();
+    let n = hex::encode(b, &mut text);
+    io::write_all(STDOUT_FILENO, &text[..n]);
+}
+
+// The errno, and the buffer after the call.
+pub fn after_call(errno: u8, buffer: &[u8])
+    requires { ⌜ length (now buffer) ≤ 4200 ⌝ }
+{
+    io::print_decimal(STDOUT_FILENO, errno as u64);
+    io::write_all(STDOUT_FILENO, b" ");
+    write_bytes(buffer);
+    io::write_all(STDOUT_FILENO, b"\n");
+}
+
+// Linux's number for a refusal.
+fn number_of(e: Errno) -> u8
+    ensures { λ r. ⌜ r ≡ number e ⌝ }
+{
+    match e {
+        Errno::EPERM => 1,
+        Errno::ENOENT => 2,
+        Errno::EEXIST => 17,
+        Errno::ENOTDIR => 20,
+        Errno::EINVAL => 22,
+        Errno::ENOSPC => 28,
+        Errno::ERANGE => 34,
+        Errno::ENAMETOOLONG => 36,
+        Errno::ENOTEMPTY => 39,
+        Errno::ENODATA => 61,
+        Errno::ENOTUNIQ => 76,
+        Errno::EUCLEAN => 117,
+        Errno::ENOKEY => 126,
+    }
+}
+
+// A refusal's number alone.
+pub fn refused(e: Errno) {
+    io::print_decimal(STDOUT_FILENO, number_of(e) as u64);
+    io::write_all(STDOUT_FILENO, b"\n");
+}
+
+fn fine() {
+    io::write_all(STDOUT_FILENO, b"0\n");
+}
+
+// What a check came to, with nothing more to say.
+pub fn after_check(checked: Checked) {
+    match checked {
+        Checked::Fine => fine(),
+        Checked::Refused(e) => refused(e),
+    }
+}
+
+pub fn yes_or_no(yes: bool) {
+    if yes {
+        io::write_all(STDOUT_FILENO, b"0 yes\n");
+        return;
+    }
+    io::write_all(STDOUT_FILENO, b"0 no\n");
+}

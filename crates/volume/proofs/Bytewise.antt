@@ -1,0 +1,123 @@
+-- The bytes of the keys and nonces on a volume are bytes, after every request: each is zeros or was handed in by a request.
+-- Assumes nothing.
+use Prim.Native.Nat.{ℕ, zero, suc, _-_}
+use native.Mathlib.Omega.{arith}
+use mathlib.Core.Path.{_≡_, refl, sym, ap, subst}
+use mathlib.Core.Logic.{_⊎_, inl, inr}
+use mathlib.Core.List.{List, [], _∷_, _++_, List·Memᴰ, List·Memᴰ·not-nil, List·Memᴰ·cases-cons, List·Memᴰ·head, List·Memᴰ·tail}
+use lib.ListN.{length, getD, set, take}
+use Rattle.lists.specs.Bytes.{Bytes, ByteList, zeros}
+use Rattle.lists.proofs.Tables.{all-set}
+use Rattle.lists.proofs.Slots.{by-cond, all-same}
+use Rattle.errno.specs.declared.Checked.{Checked}
+use Rattle.errno.specs.declared.Checked.the-variants.{Fine, Refused}
+use Rattle.fscrypt.specs.Cipher.{Cipher}
+use Rattle.volume.specs.Volume.{keySlots, noKey, noInode, keySlot, fresh}
+use Rattle.volume.specs.Request.{Request, addKey, removeKey, setPolicy, getPolicy, create, link, rename, exchange, remove, find, show, seal, unseal, Outcome}
+use Rattle.volume.specs.Lookup.{inodeAt, keySlotOf, freeKeySlot, freeInode, isHeld}
+use Rattle.volume.specs.Checks.{isNonceNeeded}
+use Rattle.volume.specs.Step.{childOf, withoutUnheld, lent, check, effect, settle, step}
+use Rattle.volume.specs.Run.{Moment, momentOf, runFrom, run}
+use Rattle.volume.specs.Sound.{nodeAt}
+use Rattle.volume.specs.TwoRuns.{Typed, AllTyped}
+use Rattle.volume.specs.SealedOpens.{Bytewise}
+use Rattle.volume.specs.declared.Key.{Key}
+use Rattle.volume.specs.declared.Inode.{Inode}
+use Rattle.volume.specs.declared.Volume.{Volume}
+
+-- ---- bytes
+
+pub bytes-take : (n : ℕ) (x : Bytes) → ByteList x → ByteList (take n x)
+bytes-take zero x h i = omega arith
+bytes-take (suc n) [] h i = h i
+bytes-take (suc n) (x ∷ xs) h zero = h 0
+bytes-take (suc n) (x ∷ xs) h (suc i) = bytes-take n xs (λ j. h (suc j)) i
+
+bytes-zeros : (n : ℕ) → ByteList (zeros n)
+unfolding zeros
+bytes-zeros zero i = omega arith
+bytes-zeros (suc n) zero = omega arith
+bytes-zeros (suc n) (suc i) = bytes-zeros n i
+
+bytes-append : (x y : Bytes) → ByteList x → ByteList y → ByteList (x ++ y)
+bytes-append [] y h k i = k i
+bytes-append (a ∷ x) y h k zero = h 0
+bytes-append (a ∷ x) y h k (suc i) = bytes-append x y (λ j. h (suc j)) k i
+
+-- ---- one store
+
+abbrev KeyBytes : Key → Type 0
+KeyBytes k = ByteList (k .bytes)
+
+abbrev NonceBytes : Inode → Type 0
+NonceBytes n = ByteList (n .context .nonce)
+
+set-key : (v : Volume) → Bytewise v → (j : ℕ) (key : Key) → KeyBytes key → (k : ℕ) → KeyBytes (getD (set (v .keys) j key) k noKey)
+set-key v w j key h = all-set (λ i x. KeyBytes x) (v .keys) noKey j key (λ i. bytes-zeros 64) (λ i ne. w .keys i) h
+
+set-inode : (v : Volume) → Bytewise v → (j : ℕ) (node : Inode) → NonceBytes node → (i : ℕ) → NonceBytes (getD (set (v .inodes) j node) i noInode)
+set-inode v w j node h = all-set (λ i x. NonceBytes x) (v .inodes) noInode j node (λ i. bytes-zeros 16) (λ i ne. w .nonces i) h
+
+-- ---- requests
+
+fresh-bytes : Bytewise fresh
+unfolding fresh
+fresh-bytes = record {
+  keys = λ k. subst KeyBytes (sym (all-same keySlots k noKey)) (bytes-zeros 64);
+  nonces = λ i. node i;
+}
+  where
+    node : (i : ℕ) → NonceBytes (nodeAt fresh i)
+    node zero = bytes-zeros 16
+    node (suc i) = subst NonceBytes (sym (all-same 63 i noInode)) (bytes-zeros 16)
+
+settle-bytes : (v : Volume) (b : Bytes) (o : Outcome) → Bytewise v → (k : Checked) → Bytewise (o .volume) → Bytewise ((settle v b k o) .volume)
+unfolding settle
+settle-bytes v b o w Fine f = f
+settle-bytes v b o w (Refused e) f = w
+
+module _ (C : Cipher) where
+  effect-bytes : (v : Volume) → Bytewise v → (r : Request) → Typed r → Bytewise ((effect C v r) .volume)
+  unfolding effect childOf withoutUnheld
+  effect-bytes v w (addKey d k) t = record {
+    keys = set-key v w (freeKeySlot v) (keySlot d k) (bytes-append k (zeros (64 - length k)) (t .2) (bytes-zeros (64 - length k)));
+    nonces = w .nonces;
+  }
+  effect-bytes v w (removeKey d) t = record { keys = set-key v w (keySlotOf v d) noKey (bytes-zeros 64); nonces = w .nonces }
+  effect-bytes v w (setPolicy i p x) t =
+      by-cond Bytewise (inodeAt v i .encrypted) _ _ (λ e. w) (λ e. record { keys = w .keys; nonces = set-inode v w (i .0) _ (t .2) })
+  effect-bytes v w (getPolicy i) t = w
+  effect-bytes v w (create p kind n x) t = record {
+    keys = w .keys;
+    nonces = set-inode v w (freeInode v) _ (by-cond NonceBytes (isNonceNeeded (inodeAt v p) kind) _ _ (λ e. t .2) (λ e. bytes-zeros 16));
+  }
+  effect-bytes v w (link i p n) t = record { keys = w .keys; nonces = w .nonces }
+  effect-bytes v w (rename e p n) t = record { keys = w .keys; nonces = w .nonces }
+  effect-bytes v w (exchange a b) t = record { keys = w .keys; nonces = w .nonces }
+  effect-bytes v w (remove e) t = record {
+    keys = w .keys;
+    nonces = by-cond (λ (is : List Inode). (i : ℕ) → NonceBytes (getD is i noInode)) (isHeld _ _) _ _ (λ h. w .nonces) (λ h. set-inode v w _ noInode (bytes-zeros 16));
+  }
+  effect-bytes v w (find p n) t = w
+  effect-bytes v w (show e b) t = w
+  effect-bytes v w (seal i n b) t = w
+  effect-bytes v w (unseal i n b) t = w
+
+  pub bytewise-kept : (v : Volume) → Bytewise v → (r : Request) → Typed r → Bytewise ((step C v r) .volume)
+  unfolding step
+  bytewise-kept v w r t = settle-bytes v (lent r) (effect C v r) w (check C v r) (effect-bytes v w r t)
+
+  bytewise-from : (rs : List Request) (v : Volume) → Bytewise v → AllTyped rs → (m : Moment) → List·Memᴰ m (runFrom C v rs) → Bytewise (m .volume)
+  unfolding runFrom momentOf
+  bytewise-from [] v w t m h = absurd (List·Memᴰ·not-nil h)
+  bytewise-from (r ∷ rs) v w t m h =
+      let w′ = bytewise-kept v w r (t r (List·Memᴰ·head refl)) in
+      go (List·Memᴰ·cases-cons h) w′ (bytewise-from rs ((step C v r) .volume) w′ (λ q p. t q (List·Memᴰ·tail p)) m)
+    where
+      go : (m ≡ momentOf r (step C v r)) ⊎ List·Memᴰ m (runFrom C ((step C v r) .volume) rs) → Bytewise ((step C v r) .volume)
+          → (List·Memᴰ m (runFrom C ((step C v r) .volume) rs) → Bytewise (m .volume)) → Bytewise (m .volume)
+      go (inl e) w ih = subst Bytewise (ap (λ (x : Moment). x .volume) (sym e)) w
+      go (inr p) w ih = ih p
+
+  pub bytewise : (rs : List Request) → AllTyped rs → (m : Moment) → List·Memᴰ m (run C rs) → Bytewise (m .volume)
+  bytewise rs t m h = bytewise-from rs fresh fresh-bytes t m h

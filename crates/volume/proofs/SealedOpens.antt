@@ -1,0 +1,367 @@
+-- With the same key, what was encrypted decrypts to what it was: blocks by the cipher's law, and names since the volume that a create, link or rename leaves
+-- has the same keys and the same directory, so that what is read is what was stored. Assumes nothing.
+use Prim.Native.Nat.{ℕ}
+use native.Mathlib.Omega.{arith}
+use mathlib.Core.Path.{_≡_, refl, sym, _∙_, ap, ap₂, subst}
+use mathlib.Core.Logic.{_≢_}
+use mathlib.Core.Bool.{Bool, true, false, cond, not, _&&_, false≢true}
+use mathlib.Core.List.{List, _++_}
+use lib.ListN.{length, getD, take, drop}
+use lib.Dec.{ltb}
+use lib.Seq.{getD-set-same, getD-set-other, take-append-seam}
+use borrow.Author.Tests.{le-ltb}
+use Rattle.lists.specs.Bytes.{Bytes, ByteList}
+use Rattle.lists.proofs.Tests.{not-false, and-known, if-true, if-false, eqb-other}
+use Rattle.lists.proofs.Slots.{by-test, by-cond, search-room}
+use Rattle.errno.specs.Refusals.{_⇒_, _>>_, isFine}
+use Rattle.errno.specs.declared.Errno.the-variants.{ENOENT, EINVAL, ENOKEY, EPERM, EEXIST, ENOTUNIQ, ENOSPC, ERANGE, EUCLEAN}
+use Rattle.errno.specs.declared.Checked.{Checked}
+use Rattle.errno.specs.declared.Checked.the-variants.{Fine, Refused}
+use Rattle.errno.proofs.Chains.{passed}
+use Rattle.policy.specs.Policies.{isMasterKeySize, nameKeySize}
+use Rattle.fscrypt.specs.Cipher.{Cipher, Lawful}
+use Rattle.fscrypt.specs.Names.{nameCheck, readPadded, nameBytes, packed}
+use Rattle.fscrypt.specs.Encoded.{encoded}
+use Rattle.fscrypt.specs.declared.NameRead.{NameRead}
+use Rattle.fscrypt.proofs.Padding.{read-stored, nameBytes-packed}
+use Rattle.volume.specs.Volume.{entrySlots, noInode, noEntry, keyBytes, nameOf, entrySlot}
+use Rattle.volume.specs.Request.{Request, create, link, rename, show, seal, unseal, Answer, refused, done, created, at, shown, Outcome, outcome}
+use Rattle.volume.specs.Lookup.{keySlotOf, keyOf, masterKey, descriptorOf, keyPresent, keyNeeded, inodeAt, freeInode, entryAt, isVacant, freeEntry}
+use Rattle.volume.specs.Checks.{derivedKey, nameKey, stored, readName, shownName, isUnreadable, formIn, blockCheck, showCheck, createCheck, linkCheck, renameCheck}
+use Rattle.volume.specs.Step.{lent, check, effect, settle, step, childOf}
+use Rattle.volume.specs.Sound.{Sound, nodeAt, dirOf}
+use Rattle.volume.specs.TwoRuns.{Typed}
+use Rattle.volume.specs.SealedOpens.{Bytewise, ShowsAs, SameKey, SealedOpens}
+use Rattle.volume.specs.declared.InodeNumber.{InodeNumber}
+use Rattle.volume.specs.declared.EntryNumber.{EntryNumber}
+use Rattle.volume.specs.declared.Key.{Key}
+use Rattle.volume.specs.declared.Inode.{Inode}
+use Rattle.volume.specs.declared.Entry.{Entry}
+use Rattle.volume.specs.declared.Volume.{Volume}
+use Rattle.volume.specs.declared.ShownEntry.{ShownEntry}
+use Rattle.volume.specs.declared.Form.{Form}
+use Rattle.volume.specs.declared.Form.the-variants.{Plain, Decrypted, Encoded}
+use Rattle.volume.proofs.SoundCore.{slot-name}
+use Rattle.volume.proofs.SoundClimb.{num}
+use Rattle.volume.proofs.SoundInvariant.{pass, is-directory, one≢zero, used-range, name-ok}
+use Rattle.volume.proofs.SoundCreate.{free-kind}
+use Rattle.volume.proofs.Bytewise.{bytes-take, bytewise-kept}
+
+-- ---- a request that was not refused passed its checks
+
+passed-all : (v : Volume) (b : Bytes) (o : Outcome) (k : Checked) (a : Answer) → ((m : ℕ) → refused m ≢ a) → (settle v b k o) .answer ≡ a → k ≡ Fine
+unfolding settle
+passed-all v b o Fine a na h = refl
+passed-all v b o (Refused e) a na h = absurd (na _ h)
+
+settled : (v : Volume) (b : Bytes) (o : Outcome) (k : Checked) → k ≡ Fine → settle v b k o ≡ o
+unfolding settle
+settled v b o k h = ap (λ (c : Checked). settle v b c o) h
+
+module _ (C : Cipher) (v : Volume) (r : Request) (a : Answer) (na : (m : ℕ) → refused m ≢ a) (h : (step C v r) .answer ≡ a) where
+  was-fine : check C v r ≡ Fine
+  unfolding step
+  was-fine = passed-all v (lent r) (effect C v r) (check C v r) a na h
+
+  was-done : step C v r ≡ effect C v r
+  unfolding step
+  was-done = settled v (lent r) (effect C v r) (check C v r) was-fine
+
+done-by : (C : Cipher) (v : Volume) (r : Request) → check C v r ≡ Fine → step C v r ≡ effect C v r
+unfolding step
+done-by C v r h = settled v (lent r) (effect C v r) (check C v r) h
+
+-- ---- what is read of a volume by the key of an inode
+
+needed-same : (v w : Volume) (node : Inode) → SameKey v w node → keyNeeded w node ≡ keyNeeded v node
+unfolding keyNeeded keyPresent
+needed-same v w node k = ap (λ (x : Key). node .encrypted && not (isMasterKeySize (node .context .policy) (x .len))) k
+
+present-same : (v w : Volume) (node : Inode) → SameKey v w node → keyPresent w node ≡ keyPresent v node
+unfolding keyPresent
+present-same v w node k = ap (λ (x : Key). isMasterKeySize (node .context .policy) (x .len)) k
+
+derived-same : (C : Cipher) (v w : Volume) (node : Inode) → SameKey v w node → derivedKey C w node ≡ derivedKey C v node
+unfolding derivedKey
+derived-same C v w node k = ap (λ (x : Key). C .derive (keyBytes x) (node .context .nonce)) k
+
+module _ (C : Cipher) (v w : Volume) (dir : Inode) (k : SameKey v w dir) where
+  read-same : (s : Bytes) → readName C w dir s ≡ readName C v dir s
+  unfolding readName nameKey
+  read-same s =
+      ap (λ (x : Bytes). readPadded (dir .context .policy .flags) (C .decryptName (take (nameKeySize (dir .context .policy)) x) s)) (derived-same C v w dir k)
+
+  unreadable-same : (s : Bytes) → isUnreadable C w dir s ≡ isUnreadable C v dir s
+  unfolding isUnreadable
+  unreadable-same s =
+      ap₂ (λ (b : Bool) (r : NameRead). dir .encrypted && (b && not (isFine (r .checked)))) (present-same v w dir k) (read-same s)
+
+  shown-same : (e : EntryNumber) (s : Bytes) → shownName C w dir e s ≡ shownName C v dir e s
+  unfolding shownName
+  shown-same e s =
+      ap₂ (λ (b : Bool) (r : NameRead). cond (dir .encrypted) (cond b (nameBytes (r .name)) (encoded s (e .0))) s) (present-same v w dir k) (read-same s)
+
+  form-same : formIn w dir ≡ formIn v dir
+  unfolding formIn
+  form-same = ap (λ (b : Bool). cond (dir .encrypted) (cond b Decrypted Encoded) Plain) (present-same v w dir k)
+
+-- ---- blocks
+
+module _ (C : Cipher) (law : Lawful C) where
+  derived-bytes : (v : Volume) → Bytewise v → (node : Inode) → ByteList (node .context .nonce) → ByteList (derivedKey C v node)
+  unfolding derivedKey keyOf
+  derived-bytes v w node hx =
+      let d = descriptorOf node in
+      let k = keyOf v d in
+      law .bytes-derive (masterKey v d) (node .context .nonce) (bytes-take (k .len) (k .bytes) (w .keys (keySlotOf v d))) hx
+
+  -- the check of a block reads the inode and its key alone
+  block-same : (v w : Volume) (i : InodeNumber) (n : ℕ) → inodeAt w i ≡ inodeAt v i → SameKey v w (inodeAt v i) → blockCheck w i n ≡ blockCheck v i n
+  unfolding blockCheck
+  block-same v w i n q k = rw (q, needed-same v w (inodeAt v i) k)
+
+  later-opens : (v w : Volume) → Bytewise v → (i : InodeNumber) (n : ℕ) (b : Bytes) → ByteList b → inodeAt w i ≡ inodeAt v i → SameKey v w (inodeAt v i)
+      → (step C v (seal i n b)) .answer ≡ done → step C w (unseal i n ((step C v (seal i n b)) .buffer)) ≡ outcome done b w
+  unfolding step lent check effect
+  later-opens v w bytes i n b hb q k h =
+      let fine : blockCheck v i (length b) ≡ Fine = was-fine C v (seal i n b) done (λ m q. let z : _≡_ {A = ℕ} 0 1 = cc in absurd (omega arith)) h in
+      let key = derivedKey C v (inodeAt v i) in
+      let sealed = C .seal key n b in
+      let again : blockCheck w i (length sealed) ≡ Fine = block-same v w i (length sealed) q k ∙ ap (blockCheck v i) (law .length-seal key n b) ∙ fine in
+      let same-key : derivedKey C w (inodeAt w i) ≡ key = ap (derivedKey C w) q ∙ derived-same C v w (inodeAt v i) k in
+      ap (λ (o : Outcome). step C w (unseal i n (o .buffer))) (settled v b (outcome done sealed v) (blockCheck v i (length b)) fine)
+      ∙ settled w sealed (outcome done (C .unseal (derivedKey C w (inodeAt w i)) n sealed) w) (blockCheck w i (length sealed)) again
+      ∙ ap (λ (x : Bytes). outcome done (C .unseal x n sealed) w) same-key
+      ∙ ap (λ (x : Bytes). outcome done x w) (law .unseal-seal key n b (derived-bytes v bytes (inodeAt v i) (bytes .nonces (i .0))) hb)
+
+  -- seal leaves the volume as it was
+  block-opens : (v : Volume) → Bytewise v → (i : InodeNumber) (n : ℕ) (b : Bytes) → ByteList b → (step C v (seal i n b)) .answer ≡ done
+      → step C ((step C v (seal i n b)) .volume) (unseal i n ((step C v (seal i n b)) .buffer)) ≡ outcome done b v
+  unfolding effect
+  block-opens v bytes i n b hb h =
+      let d = was-done C v (seal i n b) done (λ m q. let z : _≡_ {A = ℕ} 0 1 = cc in absurd (omega arith)) h in
+      ap (λ (o : Outcome). step C (o .volume) (unseal i n ((step C v (seal i n b)) .buffer))) d ∙ later-opens v v bytes i n b hb refl refl h
+
+  -- ---- names: a stored name is shown as it was given
+
+  module _ (v : Volume) (w : Bytewise v) (dir : Inode) (hx : ByteList (dir .context .nonce)) (n : Bytes) (hn : ByteList n) (good : nameCheck n ≡ Fine)
+      (held : keyNeeded v dir ≡ false) where
+    abbrev flags : ℕ
+    flags = dir .context .policy .flags
+
+    key-bytes : ByteList (nameKey C v dir)
+    unfolding nameKey
+    key-bytes = bytes-take (nameKeySize (dir .context .policy)) (derivedKey C v dir) (derived-bytes v w dir hx)
+
+    is-present : dir .encrypted ≡ true → keyPresent v dir ≡ true
+    unfolding keyNeeded
+    is-present e = not-false (and-known e held)
+
+    reads : dir .encrypted ≡ true → readName C v dir (stored C v dir n) ≡ record { checked = Fine; name = packed n }
+    unfolding readName stored
+    reads e =
+        ap (λ (s : Bytes). readPadded flags (C .decryptName (nameKey C v dir) s)) (if-true _ _ e) ∙ read-stored C law (nameKey C v dir) flags n key-bytes hn good
+
+    readable : isUnreadable C v dir (stored C v dir n) ≡ false
+    unfolding isUnreadable
+    readable =
+        by-test (dir .encrypted)
+        (λ e. last (dir .encrypted) (keyPresent v dir) (ap (λ (r : NameRead). not (isFine (r .checked))) (reads e)))
+        (λ e. ap (λ (t : Bool). t && (keyPresent v dir && not (isFine ((readName C v dir (stored C v dir n)) .checked)))) e)
+      where
+        last : (a b : Bool) {c : Bool} → c ≡ false → (a && (b && c)) ≡ false
+        last true true e = e
+        last true false e = refl
+        last false b e = refl
+
+    shown-name : (e : EntryNumber) → shownName C v dir e (stored C v dir n) ≡ n
+    unfolding shownName stored
+    shown-name e =
+        by-test (dir .encrypted)
+        (λ t. if-true _ _ t ∙ if-true _ _ (is-present t) ∙ ap (λ (r : NameRead). nameBytes (r .name)) (reads t) ∙ nameBytes-packed n)
+        (λ t. if-false _ _ t ∙ if-false _ _ t)
+
+    abbrev isEncoded : Form → Bool
+    isEncoded Plain = false
+    isEncoded Decrypted = false
+    isEncoded Encoded = true
+
+    not-encoded : formIn v dir ≢ Encoded
+    unfolding formIn
+    not-encoded q = false≢true (sym shape ∙ ap isEncoded q)
+      where
+        shape : isEncoded (cond (dir .encrypted) (cond (keyPresent v dir) Decrypted Encoded) Plain) ≡ false
+        shape =
+            by-cond (λ (f : Form). isEncoded f ≡ false) (dir .encrypted) _ _
+            (λ t. ap (λ (b : Bool). isEncoded (cond b Decrypted Encoded)) (is-present t)) (λ t. refl)
+
+    pub shows : (e : EntryNumber) → isVacant (entryAt v e) ≡ false → inodeAt v (entryAt v e .parent) ≡ dir → nameOf (entryAt v e) ≡ stored C v dir n → ShowsAs C v e n
+    unfolding step lent check effect showCheck _>>_ _⇒_ settle
+    shows e used there name b room =
+        let x = entryAt v e in
+        let o = effect C v (show e b) in
+        let unreadable : isUnreadable C v (inodeAt v (x .parent)) (nameOf x) ≡ false =
+        ap (λ (d : Inode). isUnreadable C v d (nameOf x)) there ∙ ap (isUnreadable C v dir) name ∙ readable in
+        let is-name : shownName C v (inodeAt v (x .parent)) e (nameOf x) ≡ n =
+        ap (λ (d : Inode). shownName C v d e (nameOf x)) there ∙ ap (shownName C v dir e) name ∙ shown-name e in
+        let fine : showCheck C v e (length b) ≡ Fine = rw (le-ltb (length b) 255 room, used, unreadable) in (
+          _,
+          ap (λ (k : Checked). (settle v b k o) .answer) fine,
+          λ q. not-encoded (ap (formIn v) (sym there) ∙ q),
+          ap (λ (k : Checked). take (length (shownName C v (inodeAt v (x .parent)) e (nameOf x))) ((settle v b k o) .buffer)) fine
+              ∙ take-append-seam (shownName C v (inodeAt v (x .parent)) e (nameOf x)) _ ∙ is-name,
+        )
+
+  -- ---- names: an entry that a request stored
+
+  module _ (v : Volume) (is : List Inode) (es : List Entry) where
+    -- a volume with the same keys
+    abbrev after : Volume
+    after = record { keys = v .keys; inodes = is; entries = es }
+
+    stored-same : (dir : Inode) (n : Bytes) → stored C after dir n ≡ stored C v dir n
+    unfolding stored nameKey derivedKey keyOf keySlotOf
+    stored-same dir n = refl
+
+    held-same : (dir : Inode) → keyNeeded after dir ≡ keyNeeded v dir
+    unfolding keyNeeded keyPresent keyOf keySlotOf
+    held-same dir = refl
+
+    shows-new : Bytewise after → (e : EntryNumber) (p i : InodeNumber) (n : Bytes) → ByteList n → nameCheck n ≡ Fine → keyNeeded v (inodeAt v p) ≡ false
+        → getD is (p .0) noInode ≡ inodeAt v p → getD es (e .0) noEntry ≡ entrySlot p i (stored C v (inodeAt v p) n) → ShowsAs C after e n
+    shows-new w e p i n hn good held dir slot =
+        let s = stored C v (inodeAt v p) n in
+        let ok = name-ok C law v (inodeAt v p) n good in
+        let nz : isVacant (entrySlot p i s) ≡ false = eqb-other (length s) 0 (λ z. absurd (omega (arith, ok .some, z))) in
+        shows after w (inodeAt v p) (subst (λ (d : Inode). ByteList (d .context .nonce)) dir (w .nonces (p .0))) n hn good (held-same (inodeAt v p) ∙ held) e
+        (ap isVacant slot ∙ nz)
+        (ap (λ (x : Entry). getD is (x .parent .0) noInode) slot ∙ dir)
+        (ap nameOf slot ∙ slot-name p i s ∙ sym (stored-same (inodeAt v p) n))
+
+  created-shows : (v : Volume) → Bytewise v → Sound v → (p : InodeNumber) (kind : ℕ) (n x : Bytes) → Typed (create p kind n x) → (i : InodeNumber) (e : EntryNumber)
+      → (step C v (create p kind n x)) .answer ≡ created i e → ShowsAs C ((step C v (create p kind n x)) .volume) e n
+  unfolding check effect createCheck freeEntry
+  created-shows v w s p kind n x t i e h =
+      let r : Request = create p kind n x in
+      let na : (m : ℕ) → refused m ≢ created i e = λ m q. let z : _≡_ {A = ℕ} 0 1 = cc in absurd (omega arith) in
+      let eff : step C v r ≡ effect C v r = was-done C v r (created i e) na h in
+      let named = passed _ _ (was-fine C v r (created i e) na h) in
+      pass _ EINVAL _ (named .1) λ h₂ k₂.
+      let dir = passed _ _ k₂ in
+      pass _ ENOKEY _ (dir .1) λ h₄ k₄.
+      pass _ EEXIST _ k₄ λ h₅ k₅.
+      pass _ ENOTUNIQ _ k₅ λ h₆ k₆.
+      pass _ ENOSPC _ k₆ λ h₇ k₇.
+      pass _ ENOSPC _ k₇ λ h₈ k₈.
+      let room = search-room isVacant (v .entries) noEntry entrySlots (s .entry-slots) h₈ in
+      let new = entrySlot p (num (freeInode v)) (stored C v (inodeAt v p) n) in
+      let q : _≡_ {A = EntryNumber} (record { 0 = freeEntry v }) e = entry-of (ap (λ (o : Outcome). o .answer) (sym eff) ∙ h) in
+      let w′ = subst (λ (o : Outcome). Bytewise (o .volume)) eff (bytewise-kept C v w r t) in
+      let apart : p .0 ≢ freeInode v = λ z. one≢zero (is-directory v p (dir .0)) (ap (λ (m : ℕ). nodeAt v m .kind) z ∙ free-kind v) in
+      subst (λ (o : Outcome). ShowsAs C (o .volume) e n) (sym eff)
+      (subst (λ (f : EntryNumber). ShowsAs C ((effect C v r) .volume) f n) q
+      (shows-new v _ _ w′ (record { 0 = freeEntry v }) p (num (freeInode v)) n (t .0) (named .0) h₄
+      (getD-set-other (v .inodes) (freeInode v) (p .0) (childOf (inodeAt v p) kind x) noInode apart)
+      (getD-set-same (v .entries) (freeEntry v) new noEntry room)))
+    where
+      entry-of : {j i : InodeNumber} {f e : EntryNumber} → created j f ≡ created i e → f ≡ e
+      entry-of q = cc
+
+  linked-shows : (v : Volume) → Bytewise v → Sound v → (i p : InodeNumber) (n : Bytes) → Typed (link i p n) → (e : EntryNumber)
+      → (step C v (link i p n)) .answer ≡ at e → ShowsAs C ((step C v (link i p n)) .volume) e n
+  unfolding check effect linkCheck freeEntry
+  linked-shows v w s i p n t e h =
+      let r : Request = link i p n in
+      let na : (m : ℕ) → refused m ≢ at e = λ m q. let z : _≡_ {A = ℕ} 0 1 = cc in absurd (omega arith) in
+      let eff : step C v r ≡ effect C v r = was-done C v r (at e) na h in
+      let named = passed _ _ (was-fine C v r (at e) na h) in
+      pass _ ENOENT _ (named .1) λ h₂ k₂.
+      let dir = passed _ _ k₂ in
+      pass _ EPERM _ (dir .1) λ h₄ k₄.
+      pass _ ENOKEY _ k₄ λ h₅ k₅.
+      pass _ EPERM _ k₅ λ h₆ k₆.
+      pass _ EEXIST _ k₆ λ h₇ k₇.
+      pass _ ENOSPC _ k₇ λ h₈ k₈.
+      let room = search-room isVacant (v .entries) noEntry entrySlots (s .entry-slots) h₈ in
+      let new = entrySlot p i (stored C v (inodeAt v p) n) in
+      let q : _≡_ {A = EntryNumber} (record { 0 = freeEntry v }) e = entry-of (ap (λ (o : Outcome). o .answer) (sym eff) ∙ h) in
+      let w′ = subst (λ (o : Outcome). Bytewise (o .volume)) eff (bytewise-kept C v w r t) in
+      subst (λ (o : Outcome). ShowsAs C (o .volume) e n) (sym eff)
+      (subst (λ (f : EntryNumber). ShowsAs C ((effect C v r) .volume) f n) q
+      (shows-new v _ _ w′ (record { 0 = freeEntry v }) p i n t (named .0) h₅ refl (getD-set-same (v .entries) (freeEntry v) new noEntry room)))
+    where
+      entry-of : {f e : EntryNumber} → at f ≡ at e → f ≡ e
+      entry-of q = cc
+
+  renamed-shows : (v : Volume) → Bytewise v → (e : EntryNumber) (p : InodeNumber) (n : Bytes) → Typed (rename e p n) → (step C v (rename e p n)) .answer ≡ done
+      → ShowsAs C ((step C v (rename e p n)) .volume) e n
+  unfolding check effect renameCheck
+  renamed-shows v w e p n t h =
+      let r : Request = rename e p n in
+      let na : (m : ℕ) → refused m ≢ done = λ m q. let z : _≡_ {A = ℕ} 0 1 = cc in absurd (omega arith) in
+      let eff : step C v r ≡ effect C v r = was-done C v r done na h in
+      let named = passed _ _ (was-fine C v r done na h) in
+      pass _ ENOENT _ (named .1) λ h₂ k₂.
+      let dir = passed _ _ k₂ in
+      pass _ ENOKEY _ (dir .1) λ h₄ k₄.
+      pass _ ENOKEY _ k₄ λ h₅ k₅.
+      let new = entrySlot p (entryAt v e .inode) (stored C v (inodeAt v p) n) in
+      let w′ = subst (λ (o : Outcome). Bytewise (o .volume)) eff (bytewise-kept C v w r t) in
+      subst (λ (o : Outcome). ShowsAs C (o .volume) e n) (sym eff)
+      (shows-new v _ _ w′ e p (entryAt v e .inode) n t (named .0) h₅ refl
+      (getD-set-same (v .entries) (e .0) new noEntry (used-range (v .entries) (e .0) h₂)))
+
+-- ---- names: on a later volume
+
+module _ (C : Cipher) (v w : Volume) (e : EntryNumber) (qx : entryAt w e ≡ entryAt v e) (qd : dirOf w (e .0) ≡ dirOf v (e .0)) (k : SameKey v w (dirOf v (e .0))) where
+  abbrev dir : Inode
+  dir = dirOf v (e .0)
+
+  unreadable-later : isUnreadable C w (dirOf w (e .0)) (nameOf (entryAt w e)) ≡ isUnreadable C v dir (nameOf (entryAt v e))
+  unreadable-later =
+      ap₂ (λ (d : Inode) (x : Entry). isUnreadable C w d (nameOf x)) qd qx ∙ unreadable-same C v w dir k (nameOf (entryAt v e))
+
+  shown-later : shownName C w (dirOf w (e .0)) e (nameOf (entryAt w e)) ≡ shownName C v dir e (nameOf (entryAt v e))
+  shown-later = ap₂ (λ (d : Inode) (x : Entry). shownName C w d e (nameOf x)) qd qx ∙ shown-same C v w dir k e (nameOf (entryAt v e))
+
+  check-later : (n : ℕ) → showCheck C w e n ≡ showCheck C v e n
+  unfolding showCheck
+  check-later n =
+      ap₂ (λ (a b : Bool). _>>_ (ltb n 255 ⇒ ERANGE) (_>>_ (a ⇒ ENOENT) (_>>_ (b ⇒ EUCLEAN) Fine))) (ap isVacant qx) unreadable-later
+
+  later-shows : (n : Bytes) → ShowsAs C v e n → ShowsAs C w e n
+  unfolding check effect
+  later-shows n h b room =
+      let r = h b room in
+      let na : (m : ℕ) → refused m ≢ shown (r .0) = λ m q. let z : _≡_ {A = ℕ} 0 1 = cc in absurd (omega arith) in
+      let fine = was-fine C v (show e b) (shown (r .0)) na (r .1) in
+      let dv : step C v (show e b) ≡ effect C v (show e b) = was-done C v (show e b) (shown (r .0)) na (r .1) in
+      let dw : step C w (show e b) ≡ effect C w (show e b) = done-by C w (show e b) (check-later (length b) ∙ fine) in
+      let nv = shownName C v dir e (nameOf (entryAt v e)) in
+      let nw = shownName C w (dirOf w (e .0)) e (nameOf (entryAt w e)) in
+      let s : formIn v dir ≡ r .0 .form = form-of (ap (λ (o : Outcome). o .answer) (sym dv) ∙ r .1) in
+      let l : length nv ≡ r .0 .len = len-of (ap (λ (o : Outcome). o .answer) (sym dv) ∙ r .1) in
+      let name : nv ≡ n =
+      sym (take-append-seam nv (drop (length nv) b)) ∙ ap (λ (m : ℕ). take m (nv ++ drop (length nv) b)) l
+      ∙ ap (λ (o : Outcome). take (r .0 .len) (o .buffer)) (sym dv) ∙ r .3 in (
+        _,
+        ap (λ (o : Outcome). o .answer) dw,
+        (λ q. r .2 (sym s ∙ sym (form-same C v w dir k) ∙ ap (formIn w) (sym qd) ∙ q)),
+        ap (λ (o : Outcome). take (length nw) (o .buffer)) dw ∙ take-append-seam nw (drop (length nw) b) ∙ shown-later ∙ name,
+      )
+    where
+      form-of : {s t : ShownEntry} → shown s ≡ shown t → s .form ≡ t .form
+      form-of q = cc
+
+      len-of : {s t : ShownEntry} → shown s ≡ shown t → s .len ≡ t .len
+      len-of q = cc
+
+pub sealed-opens : (C : Cipher) → Lawful C → SealedOpens C
+sealed-opens C law = record {
+  blocks = block-opens C law;
+  later-blocks = later-opens C law;
+  created-names = created-shows C law;
+  linked-names = linked-shows C law;
+  renamed-names = renamed-shows C law;
+  later-names = λ v w e n qx qd k. later-shows C v w e qx qd k n;
+}

@@ -1,0 +1,97 @@
+-- Rename keeps the invariant: the climb from the new parent goes by no entry of the moved inode, so it stands as it was, and the moved inode is rooted by it.
+-- Assumes nothing.
+use Prim.Native.Nat.{ℕ, suc}
+use mathlib.Core.Path.{_≡_, sym, _∙_, ap, subst}
+use mathlib.Core.Logic.{_≢_, inl, inr}
+use mathlib.Core.Bool.{false}
+use mathlib.Core.List.{List}
+use lib.ListN.{getD, set}
+use lib.Seq.{getD-set-same, getD-set-other}
+use Rattle.lists.specs.Bytes.{Bytes}
+use Rattle.lists.proofs.Slots.{by-eq}
+use Rattle.errno.specs.declared.Errno.the-variants.{ENOENT, ENOKEY, EPERM, EINVAL, EEXIST}
+use Rattle.errno.specs.declared.Checked.the-variants.{Fine}
+use Rattle.errno.proofs.Chains.{passed}
+use Rattle.fscrypt.specs.Cipher.{Cipher, Lawful}
+use Rattle.fscrypt.specs.Names.{nameCheck}
+use Rattle.volume.specs.Volume.{noEntry, entrySlot}
+use Rattle.volume.specs.Request.{rename}
+use Rattle.volume.specs.Lookup.{inodeAt, isVacant, isTaken, isUnderItself}
+use Rattle.volume.specs.Checks.{isPolicyRefused, stored, renameCheck}
+use Rattle.volume.specs.Step.{withEntries, effect}
+use Rattle.volume.specs.Sound.{slotAt}
+use Rattle.volume.specs.declared.InodeNumber.{InodeNumber}
+use Rattle.volume.specs.declared.EntryNumber.{EntryNumber}
+use Rattle.volume.specs.declared.Entry.{Entry}
+use Rattle.volume.specs.declared.Volume.{Volume}
+use Rattle.volume.proofs.SoundPolicy.{may-hold}
+use Rattle.volume.proofs.SoundCore.{EntryOk, InUse, slot-used, store-core}
+use Rattle.volume.proofs.SoundClimb.{Any, Up, Rooted, up-moves, up-again}
+use Rattle.volume.proofs.SoundInvariant.{Inv, pass, is-directory, still-held, used-range, name-ok, slot-ok, NotOf, clear-of}
+
+module _ (C : Cipher) (law : Lawful C) (v : Volume) (ok : Inv v) where
+  module _ (e : ℕ) (p : InodeNumber) (n : Bytes) (u : InUse (slotAt v e)) (kd : (inodeAt v p) .kind ≡ 1) where
+    abbrev i : InodeNumber
+    i = slotAt v e .inode
+
+    abbrev s : Bytes
+    s = stored C v (inodeAt v p) n
+
+    abbrev es′ : List Entry
+    es′ = set (v .entries) e (entrySlot p i s)
+
+    moves : nameCheck n ≡ Fine → isPolicyRefused (inodeAt v p) (inodeAt v i) ≡ false → isUnderItself v i p ≡ false → isTaken v p s ≡ false → Inv (withEntries v es′)
+    moves good allowed apart free = record {
+      core = store-core v (ok .core) e p i s new-ok free (λ j ne r. ne (ok .core .joined .nodes j e (r .0, u, r .2, r .3)));
+      held = λ j jz k.
+          let r = ok .held j jz k in
+          by-eq (r .0) e
+          (λ q. (e, there-used, ap (λ (x : Entry). x .inode .0) there ∙ ap (λ (m : ℕ). slotAt v m .inode .0) (sym q) ∙ r .2))
+          (λ ne. still-held (v .entries) es′ j r (other (r .0) ne));
+      tree = λ j k.
+          let r = ok .tree j k in
+          up-again (v .entries) es′
+          (λ m um. by-eq m e (λ q. inr (subst (λ (a : ℕ). Rooted es′ (slotAt v a .inode .0)) (sym q) rooted)) (λ ne. inl (other m ne))) (r .0) j (r .1);
+    }
+      where
+        new-ok : EntryOk (v .inodes) (entrySlot p i s)
+        new-ok =
+            let w = ok .core .joined .entries-ok e u in
+            slot-ok (v .inodes) p i s kd (w .holds) (w .not-root) (may-hold (inodeAt v p) (inodeAt v i) allowed) (name-ok C law v (inodeAt v p) n good)
+
+        there : getD es′ e noEntry ≡ entrySlot p i s
+        there = getD-set-same (v .entries) e (entrySlot p i s) noEntry (used-range (v .entries) e u)
+
+        there-used : InUse (getD es′ e noEntry)
+        there-used = ap isVacant there ∙ slot-used (v .inodes) (entrySlot p i s) new-ok
+
+        other : (m : ℕ) → m ≢ e → getD es′ m noEntry ≡ slotAt v m
+        other m ne = getD-set-other (v .entries) e m (entrySlot p i s) noEntry ne
+
+        rooted : Rooted es′ (i .0)
+        rooted =
+            let clear = clear-of v ok i p kd apart in
+            let above : Up es′ Any (clear .0) (p .0) =
+            up-moves (v .entries) es′ (NotOf v ok (i .0)) (λ m ne. other m (λ q. ne (ap (λ (k : ℕ). slotAt v k .inode .0) q))) (clear .0) (p .0) (clear .1) in (
+              suc (clear .0),
+              record {
+                entry = e;
+                kept = tt;
+                used = there-used;
+                holds = ap (λ (x : Entry). x .inode .0) there;
+                above = subst (Up es′ Any (clear .0)) (ap (λ (x : Entry). x .parent .0) (sym there)) above;
+              },
+            )
+
+  pub rename-keeps : (e : EntryNumber) (p : InodeNumber) (n : Bytes) → renameCheck C v e p n ≡ Fine → Inv ((effect C v (rename e p n)) .volume)
+  unfolding effect renameCheck
+  rename-keeps e p n h =
+      let named = passed _ _ h in
+      pass _ ENOENT _ (named .1) λ h₂ k₂.
+      let dir = passed _ _ k₂ in
+      pass _ ENOKEY _ (dir .1) λ h₄ k₄.
+      pass _ ENOKEY _ k₄ λ h₅ k₅.
+      pass _ EPERM _ k₅ λ h₆ k₆.
+      pass _ EINVAL _ k₆ λ h₇ k₇.
+      pass _ EEXIST _ k₇ λ h₈ k₈.
+      moves (e .0) p n h₂ (is-directory v p (dir .0)) (named .0) h₆ h₇ h₈

@@ -1,0 +1,279 @@
+-- Every reachable volume is sound: the fresh one is, every request keeps a sound volume sound, and so is every volume of every run. `Sound` and the invariant
+-- follow from one another. On a sound volume the climb's budget is never met. Assumes nothing.
+use Prim.Native.Nat.{ℕ, zero, suc, _-_, _≤_}
+use native.Mathlib.Omega.{arith}
+use mathlib.Core.Path.{_≡_, refl, sym, _∙_, ap, subst}
+use mathlib.Core.Logic.{_≢_, _⊎_, inl, inr}
+use mathlib.Core.Bool.{true, false, true≢false, false≢true}
+use mathlib.Core.List.{List, [], _∷_, _++_, List·Memᴰ, List·Memᴰ·not-nil, List·Memᴰ·cases-cons, List·Memᴰ·head, List·Memᴰ·tail}
+use lib.ListN.{length}
+use borrow.Author.Tests.{eq-eqb}
+use Rattle.lists.specs.Bytes.{Bytes, zeros}
+use Rattle.lists.proofs.Tests.{eqb-true, eqb-other}
+use Rattle.lists.proofs.Slots.{by-eq, by-test, all-same}
+use Rattle.errno.specs.declared.Checked.{Checked}
+use Rattle.errno.specs.declared.Checked.the-variants.{Fine, Refused}
+use Rattle.fscrypt.specs.Cipher.{Cipher, Lawful}
+use Rattle.volume.specs.Volume.{keySlots, inodeSlots, entrySlots, noKey, noInode, noEntry, plainInode, nameOf, fresh}
+use Rattle.volume.specs.Request.{Request, addKey, removeKey, setPolicy, getPolicy, create, link, rename, exchange, remove, find, show, seal, unseal, Outcome}
+use Rattle.volume.specs.Lookup.{isFreeKey, inodeAt, isFree, isVacant, climbFrom}
+use Rattle.volume.specs.Step.{lent, check, effect, settle, step}
+use Rattle.volume.specs.Run.{Moment, momentOf, runFrom, run}
+use Rattle.volume.specs.Sound.{Sound, Used, BearsPolicy, keyAt, nodeAt, slotAt, dirOf, nodeOf}
+use Rattle.volume.specs.TwoRuns.{Typed, AllTyped}
+use Rattle.volume.specs.declared.InodeNumber.{InodeNumber}
+use Rattle.volume.specs.declared.Inode.{Inode}
+use Rattle.volume.specs.declared.Entry.{Entry}
+use Rattle.volume.specs.declared.Volume.{Volume}
+use Rattle.volume.specs.declared.Met.the-variants.{Root, Neither}
+use Rattle.volume.proofs.SoundCore.{Core, KeyOk, no-key-ok, InodeOk, plain-ok, no-inode-ok}
+use Rattle.volume.proofs.SoundClimb.{num, Any, Up, isRoot, hasEnded, in-range, up-short, climb-root, climb-ends, climb-up}
+use Rattle.volume.proofs.SoundInvariant.{Inv, one≢zero, not-eqb}
+use Rattle.volume.proofs.SoundKeys.{addKey-keeps, removeKey-keeps}
+use Rattle.volume.proofs.SoundSetPolicy.{setPolicy-keeps}
+use Rattle.volume.proofs.SoundLink.{link-keeps}
+use Rattle.volume.proofs.SoundRename.{rename-keeps}
+use Rattle.volume.proofs.SoundCreate.{create-keeps}
+use Rattle.volume.proofs.SoundExchange.{exchange-keeps}
+use Rattle.volume.proofs.SoundRemove.{remove-keeps}
+
+-- ---- from the invariant to the rules
+
+module _ (v : Volume) (ok : Inv v) where
+  -- the stored name is the first len bytes, and zeros follow
+  abbrev Sized : Entry → Type 0
+  Sized x = (length (nameOf x) ≡ x .len) × (x .name ≡ nameOf x ++ zeros (255 - x .len))
+
+  sized : (e : ℕ) → Sized (slotAt v e)
+  sized e =
+      by-test (isVacant (slotAt v e))
+      (λ t. subst Sized (sym (ok .core .joined .free-entries e t)) (refl, refl))
+      (λ f.
+      let q = ok .core .joined .entries-ok e f .slot in
+      let l : length (nameOf (slotAt v e)) ≡ slotAt v e .len = sym (ap (λ (x : Entry). x .len) q) in
+      (l, ap (λ (x : Entry). x .name) q ∙ ap (λ (n : ℕ). nameOf (slotAt v e) ++ zeros (255 - n)) l))
+
+  pub inv-sound : Sound v
+  inv-sound =
+      let c = ok .core in
+      record {
+        key-slots = c .ring-ok .key-slots;
+        inode-slots = c .nodes-ok .inode-slots;
+        entry-slots = c .joined .entry-slots;
+        key-lengths = λ k. c .ring-ok .keys-ok k .size;
+        key-sizes = λ k. c .ring-ok .keys-ok k .bytes-there;
+        descriptors = λ k. c .ring-ok .keys-ok k .descriptor;
+        descriptors-apart = λ j k a b d. c .ring-ok .ring j k (a, b, d);
+        root-directory = ap (λ (n : Inode). n .kind) (c .nodes-ok .root-is);
+        root-plain = ap (λ (n : Inode). n .encrypted) (c .nodes-ok .root-is);
+        kinds = λ i. c .nodes-ok .inodes-ok i .kinds;
+        parents = λ e u. c .joined .entries-ok e u .directory;
+        inodes-in-use = λ e u. eqb-other _ 0 (c .joined .entries-ok e u .holds);
+        name-sizes = λ e. sized e .0;
+        name-lengths = λ e u. (c .joined .entries-ok e u .name .some, c .joined .entries-ok e u .name .fits);
+        root-unheld = λ e u. c .joined .entries-ok e u .not-root;
+        has-entry = λ i nz f. ok .held i nz (not-eqb f);
+        one-entry = λ a b ua ub q k. c .joined .nodes a b (ua, ub, ap (λ (n : InodeNumber). n .0) q, k);
+        reachable = λ i k.
+            let r = ok .tree i k in
+            let b = up-short v c Any (r .0) i k (r .1) in
+            climb-root v c Any (num inodeSlots) (λ j kj q. absurd (omega (arith, in-range v c j (one≢zero kj), q))) inodeSlots (r .0) i (omega arith) k (r .1);
+        names-apart = λ a b ua ub q n. c .joined .names a b (ua, ub, ap (λ (x : InodeNumber). x .0) q, n);
+        policies = λ e u. c .joined .entries-ok e u .policy;
+        specials-plain = λ i k. by-test (nodeAt v i .encrypted) (λ t. absurd (omega (arith, k, c .nodes-ok .inodes-ok i .context t .kind))) (λ f. f);
+        contexts-valid = λ i t. c .nodes-ok .inodes-ok i .context t .valid;
+        context-descriptors = λ i. c .nodes-ok .inodes-ok i .descriptor;
+        context-nonces = λ i. c .nodes-ok .inodes-ok i .nonce;
+        nonces-apart = λ i j a b n. c .nodes-ok .nonces i j (a, b, n);
+        plain-names = λ e u. c .joined .entries-ok e u .name .plain;
+        encrypted-lengths = λ e u. c .joined .entries-ok e u .name .sealed;
+        free-keys = λ k. c .ring-ok .keys-ok k .free;
+        free-inodes = λ i t. c .nodes-ok .inodes-ok i .free (eqb-true t);
+        free-entries = c .joined .free-entries;
+        unused-key-bytes = λ k. c .ring-ok .keys-ok k .unused;
+        unused-name-bytes = λ e. sized e .1;
+        no-context = λ i. c .nodes-ok .inodes-ok i .bare;
+      }
+
+-- ---- and back
+
+module _ (v : Volume) (s : Sound v) where
+  has-holder : (i : ℕ) → i ≢ 0 → nodeAt v i .kind ≢ 0 → (e : ℕ) × Used v e × (slotAt v e .inode .0 ≡ i)
+  has-holder i nz k = s .has-entry i nz (eqb-other _ 0 k)
+
+  sound-core : Core v
+  sound-core = record {
+    ring-ok = record {
+      key-slots = s .key-slots;
+      keys-ok = λ k.
+          record { size = s .key-lengths k; bytes-there = s .key-sizes k; descriptor = s .descriptors k; free = s .free-keys k; unused = s .unused-key-bytes k };
+      ring = λ j k r. s .descriptors-apart j k (r .0) (r .1) (r .2);
+    };
+    nodes-ok = record {
+      inode-slots = s .inode-slots;
+      root-is = λ i. record { kind = s .root-directory i; encrypted = s .root-plain i; context = s .no-context 0 (s .root-plain) i };
+      inodes-ok = λ i.
+          record {
+            kinds = s .kinds i;
+            context = λ e.
+                record {
+                  kind = by-eq (nodeAt v i .kind) 4 (λ q. absurd (true≢false (sym e ∙ s .specials-plain i q))) (λ ne. omega (arith, s .kinds i, ne));
+                  valid = s .contexts-valid i e;
+                };
+            descriptor = s .context-descriptors i;
+            nonce = s .context-nonces i;
+            free = λ z. s .free-inodes i (eq-eqb _ 0 z);
+            bare = s .no-context i;
+          };
+      nonces = λ i j r. s .nonces-apart i j (r .0) (r .1) (r .2);
+    };
+    joined = record {
+      entry-slots = s .entry-slots;
+      entries-ok = λ e u.
+          let x = slotAt v e in
+          record {
+            directory = s .parents e u;
+            holds = not-eqb (s .inodes-in-use e u);
+            not-root = s .root-unheld e u;
+            policy = s .policies e u;
+            name = record { some = s .name-lengths e u .0; fits = s .name-lengths e u .1; plain = s .plain-names e u; sealed = s .encrypted-lengths e u };
+            slot = λ i.
+                record {
+                  len = sym (s .name-sizes e) i;
+                  parent = x .parent;
+                  inode = x .inode;
+                  name = (s .unused-name-bytes e ∙ ap (λ (n : ℕ). nameOf x ++ zeros (255 - n)) (sym (s .name-sizes e))) i;
+                };
+          };
+      free-entries = s .free-entries;
+      names = λ a b r. s .names-apart a b (r .0) (r .1) (ap num (r .2)) (r .3);
+      nodes = λ a b r. s .one-entry a b (r .0) (r .1) (ap num (r .2)) (r .3);
+    };
+  }
+
+  pub sound-inv : Inv v
+  sound-inv = record {
+    core = sound-core;
+    held = has-holder;
+    tree = λ i k. climb-up v sound-core has-holder (num inodeSlots) inodeSlots i k (ap isRoot (s .reachable i k));
+  }
+
+-- ---- the fresh volume
+
+fresh-key : (k : ℕ) → keyAt fresh k ≡ noKey
+unfolding fresh
+fresh-key k = all-same keySlots k noKey
+
+fresh-entry : (e : ℕ) → slotAt fresh e ≡ noEntry
+unfolding fresh
+fresh-entry e = all-same entrySlots e noEntry
+
+fresh-sizes : (length (fresh .keys) ≡ keySlots) × (length (fresh .inodes) ≡ inodeSlots) × (length (fresh .entries) ≡ entrySlots)
+unfolding fresh
+fresh-sizes = (refl, refl, refl)
+
+-- an inode of the fresh volume is the root or none
+by-inode : (P : ℕ → Inode → Type 0) → P 0 (plainInode 1) → ((i : ℕ) → P (suc i) noInode) → (i : ℕ) → P i (nodeAt fresh i)
+unfolding fresh
+by-inode P r n zero = r
+by-inode P r n (suc i) = subst (P (suc i)) (sym (all-same 63 i noInode)) (n i)
+
+fresh-unused : (e : ℕ) → isVacant (slotAt fresh e) ≡ false → ⊥
+fresh-unused e u = true≢false (sym (ap isVacant (fresh-entry e)) ∙ u)
+
+fresh-inv : Inv fresh
+fresh-inv = record {
+  core = record {
+    ring-ok = record {
+      key-slots = fresh-sizes .0;
+      keys-ok = λ k. subst KeyOk (sym (fresh-key k)) no-key-ok;
+      ring = λ j k r. absurd (true≢false (sym (ap isFreeKey (fresh-key j)) ∙ r .0));
+    };
+    nodes-ok = record {
+      inode-slots = fresh-sizes .1;
+      root-is = by-inode (λ i n. i ≡ 0 → n ≡ plainInode 1) (λ z. refl) (λ i z. absurd (omega arith)) 0 refl;
+      inodes-ok = by-inode (λ i n. InodeOk n) (plain-ok 1 (λ z. absurd (omega arith)) (omega arith)) (λ i. no-inode-ok);
+      nonces = λ i j r. absurd (by-inode (λ k n. n .encrypted ≡ true → ⊥) false≢true (λ k. false≢true) i (r .0));
+    };
+    joined = record {
+      entry-slots = fresh-sizes .2;
+      entries-ok = λ e u. absurd (fresh-unused e u);
+      free-entries = λ e u. fresh-entry e;
+      names = λ a b r. absurd (fresh-unused a (r .0));
+      nodes = λ a b r. absurd (fresh-unused a (r .0));
+    };
+  };
+  held = λ i iz k. absurd (by-inode (λ j n. j ≢ 0 → n .kind ≢ 0 → ⊥) (λ z m. z refl) (λ j z m. m refl) i iz k);
+  tree = by-inode (λ i n. n .kind ≡ 1 → (k : ℕ) × Up (fresh .entries) Any k i) (λ e. (0, refl)) (λ i e. absurd (omega arith));
+}
+
+pub fresh-sound : Sound fresh
+fresh-sound = inv-sound fresh fresh-inv
+
+-- ---- requests and runs
+
+settle-keeps : (v : Volume) (b : Bytes) (o : Outcome) → Inv v → (k : Checked) → (k ≡ Fine → Inv (o .volume)) → Inv ((settle v b k o) .volume)
+unfolding settle
+settle-keeps v b o ok Fine f = f refl
+settle-keeps v b o ok (Refused e) f = ok
+
+module _ (C : Cipher) (law : Lawful C) where
+  effect-keeps : (v : Volume) → Inv v → (r : Request) → Typed r → check C v r ≡ Fine → Inv ((effect C v r) .volume)
+  unfolding check effect
+  effect-keeps v ok (addKey d k) t h = addKey-keeps C v ok d k (t .0) h
+  effect-keeps v ok (removeKey d) t h = removeKey-keeps C v ok d
+  effect-keeps v ok (setPolicy i p x) t h = setPolicy-keeps C v ok i p x (t .1) h
+  effect-keeps v ok (getPolicy i) t h = ok
+  effect-keeps v ok (create p kind n x) t h = create-keeps C law v ok p kind n x (t .1) h
+  effect-keeps v ok (link i p n) t h = link-keeps C law v ok i p n h
+  effect-keeps v ok (rename e p n) t h = rename-keeps C law v ok e p n h
+  effect-keeps v ok (exchange a b) t h = exchange-keeps C v ok a b h
+  effect-keeps v ok (remove e) t h = remove-keeps C v ok e h
+  effect-keeps v ok (find p n) t h = ok
+  effect-keeps v ok (show e b) t h = ok
+  effect-keeps v ok (seal i n b) t h = ok
+  effect-keeps v ok (unseal i n b) t h = ok
+
+  step-keeps : (v : Volume) → Inv v → (r : Request) → Typed r → Inv ((step C v r) .volume)
+  unfolding step
+  step-keeps v ok r t = settle-keeps v (lent r) (effect C v r) ok (check C v r) (effect-keeps v ok r t)
+
+  -- any request keeps any sound volume sound
+  pub sound-kept : (v : Volume) → Sound v → (r : Request) → Typed r → Sound ((step C v r) .volume)
+  sound-kept v s r t = inv-sound ((step C v r) .volume) (step-keeps v (sound-inv v s) r t)
+
+  sound-from : (rs : List Request) (v : Volume) → Sound v → AllTyped rs → (m : Moment) → List·Memᴰ m (runFrom C v rs) → Sound (m .volume)
+  unfolding runFrom momentOf
+  sound-from [] v s t m h = absurd (List·Memᴰ·not-nil h)
+  sound-from (r ∷ rs) v s t m h =
+      let w = sound-kept v s r (t r (List·Memᴰ·head refl)) in
+      go (List·Memᴰ·cases-cons h) w (sound-from rs ((step C v r) .volume) w (λ q p. t q (List·Memᴰ·tail p)) m)
+    where
+      go : (m ≡ momentOf r (step C v r)) ⊎ List·Memᴰ m (runFrom C ((step C v r) .volume) rs) → Sound ((step C v r) .volume)
+          → (List·Memᴰ m (runFrom C ((step C v r) .volume) rs) → Sound (m .volume)) → Sound (m .volume)
+      go (inl e) w ih = subst Sound (ap (λ (x : Moment). x .volume) (sym e)) w
+      go (inr p) w ih = ih p
+
+  -- every volume of every run that starts fresh is sound
+  pub sound : (rs : List Request) → AllTyped rs → (m : Moment) → List·Memᴰ m (run C rs) → Sound (m .volume)
+  sound rs t m h = sound-from rs fresh fresh-sound t m h
+
+  -- demand 2: "at no time does one stand there"
+  pub at-no-time : (rs : List Request) → AllTyped rs → (m : Moment) → List·Memᴰ m (run C rs) → (e : ℕ) → Used (m .volume) e
+      → (dirOf (m .volume) e) .encrypted ≡ true → (nodeOf (m .volume) e) .kind ≤ 3 → BearsPolicy (dirOf (m .volume) e) (nodeOf (m .volume) e)
+  at-no-time rs t m h = sound rs t m h .policies
+
+-- ---- the climb's budget
+
+-- the climb from a directory meets the moved one or the root before its steps run out
+pub budget : (v : Volume) → Sound v → (moved p : InodeNumber) → (inodeAt v p) .kind ≡ 1 → climbFrom v moved inodeSlots p ≢ Neither
+budget v s moved p k q =
+    let ok = sound-inv v s in
+    let r = ok .tree (p .0) k in
+    let b = up-short v (ok .core) Any (r .0) (p .0) k (r .1) in
+    true≢false (sym (climb-ends v (ok .core) Any moved inodeSlots (r .0) (p .0) (omega arith) k (r .1)) ∙ ap hasEnded q)
+
+-- every inode in use but the root stands in a directory from which the climb meets the root
+pub reached : (v : Volume) → Sound v → (i : ℕ) → i ≢ 0 → isFree (nodeAt v i) ≡ false
+    → (e : ℕ) × Used v e × (slotAt v e .inode .0 ≡ i) × (climbFrom v (num inodeSlots) inodeSlots (slotAt v e .parent) ≡ Root)
+reached v s i nz f = let r = s .has-entry i nz f in (r .0, r .1, r .2, s .reachable (slotAt v (r .0) .parent .0) (s .parents (r .0) (r .1)))

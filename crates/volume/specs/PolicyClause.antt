@@ -1,0 +1,78 @@
+-- The policy clause, demand 2: "Once the earlier checks pass, link, rename and exchange give the policy refusal exactly when an encrypted folder would gain a
+-- regular file, folder or symlink that lacks that folder's policy. So at no time does one stand there." Assumes nothing.
+use Prim.Native.Nat.{ℕ, _≤_}
+use mathlib.Core.Path.{_≡_}
+use mathlib.Core.Logic.{_⊎_, _↔_}
+use mathlib.Core.Bool.{true, false}
+use mathlib.Core.List.{List, List·Memᴰ}
+use Rattle.lists.specs.Bytes.{Bytes}
+use Rattle.errno.specs.Refusals.{number}
+use Rattle.errno.specs.declared.Errno.{Errno}
+use Rattle.errno.specs.declared.Errno.the-variants.{EPERM}
+use Rattle.errno.specs.declared.Checked.the-variants.{Fine}
+use Rattle.fscrypt.specs.Cipher.{Cipher}
+use Rattle.fscrypt.specs.Names.{nameCheck}
+use Rattle.volume.specs.Request.{Request, rename, link, exchange, refused}
+use Rattle.volume.specs.Lookup.{keyNeeded, inodeAt, isFree, isDirectory, entryAt, isVacant}
+use Rattle.volume.specs.Checks.{directoryCheck}
+use Rattle.volume.specs.Step.{step}
+use Rattle.volume.specs.Run.{Moment, run}
+use Rattle.volume.specs.Sound.{BearsPolicy, Used, dirOf, nodeOf}
+use Rattle.volume.specs.TwoRuns.{AllTyped}
+use Rattle.volume.specs.declared.InodeNumber.{InodeNumber}
+use Rattle.volume.specs.declared.EntryNumber.{EntryNumber}
+use Rattle.volume.specs.declared.Inode.{Inode}
+use Rattle.volume.specs.declared.Volume.{Volume}
+
+-- an encrypted directory would gain a regular file, directory or symlink that lacks its policy
+pub record WouldLack (dir node : Inode) : Type 0 where
+  pub is-encrypted : dir .encrypted ≡ true
+  pub not-special : node .kind ≤ 3
+  pub lacks : BearsPolicy dir node → ⊥
+
+-- ---- the earlier checks of each request, in their order
+
+pub record LinkReady (v : Volume) (i p : InodeNumber) (n : Bytes) : Type 0 where
+  pub name : nameCheck n ≡ Fine
+  pub inode : isFree (inodeAt v i) ≡ false
+  pub parent : directoryCheck v p ≡ Fine
+  pub not-directory : isDirectory (inodeAt v i) ≡ false
+  pub key : keyNeeded v (inodeAt v p) ≡ false
+
+pub record RenameReady (v : Volume) (e : EntryNumber) (p : InodeNumber) (n : Bytes) : Type 0 where
+  pub name : nameCheck n ≡ Fine
+  pub entry : isVacant (entryAt v e) ≡ false
+  pub parent : directoryCheck v p ≡ Fine
+  pub old-key : keyNeeded v (inodeAt v (entryAt v e .parent)) ≡ false
+  pub key : keyNeeded v (inodeAt v p) ≡ false
+
+pub record ExchangeReady (v : Volume) (a b : EntryNumber) : Type 0 where
+  pub one : isVacant (entryAt v a) ≡ false
+  pub other : isVacant (entryAt v b) ≡ false
+  pub one-key : keyNeeded v (inodeAt v (entryAt v a .parent)) ≡ false
+  pub other-key : keyNeeded v (inodeAt v (entryAt v b .parent)) ≡ false
+
+-- "EPERM 1 | linking a folder; first policy on the root; the policy refusal"
+abbrev pub policyRefusal : Errno
+policyRefusal = EPERM
+
+-- the request gives the policy refusal
+abbrev pub GivesRefusal : Cipher → Volume → Request → Type 0
+GivesRefusal C v r = (step C v r) .answer ≡ refused (number policyRefusal)
+
+-- ---- the clause
+
+pub record PolicyClause (C : Cipher) : Type 0 where
+  pub by-link : (v : Volume) (i p : InodeNumber) (n : Bytes) → LinkReady v i p n → GivesRefusal C v (link i p n) ↔ WouldLack (inodeAt v p) (inodeAt v i)
+  pub by-rename : (v : Volume) (e : EntryNumber) (p : InodeNumber) (n : Bytes) → RenameReady v e p n
+      → GivesRefusal C v (rename e p n) ↔ WouldLack (inodeAt v p) (nodeOf v (e .0))
+  -- each of the two directories would gain the other's inode
+  pub by-exchange : (v : Volume) (a b : EntryNumber) → ExchangeReady v a b
+      → GivesRefusal C v (exchange a b) ↔ (WouldLack (dirOf v (a .0)) (nodeOf v (b .0)) ⊎ WouldLack (dirOf v (b .0)) (nodeOf v (a .0)))
+  -- and the earlier checks passed where it is given; linking a directory has the same number
+  pub link-ready : (v : Volume) (i p : InodeNumber) (n : Bytes) → GivesRefusal C v (link i p n) → isDirectory (inodeAt v i) ≡ false → LinkReady v i p n
+  pub rename-ready : (v : Volume) (e : EntryNumber) (p : InodeNumber) (n : Bytes) → GivesRefusal C v (rename e p n) → RenameReady v e p n
+  pub exchange-ready : (v : Volume) (a b : EntryNumber) → GivesRefusal C v (exchange a b) → ExchangeReady v a b
+  -- "at no time does one stand there": after every request of every list
+  pub at-no-time : (rs : List Request) → AllTyped rs → (m : Moment) → List·Memᴰ m (run C rs) → (e : ℕ) → Used (m .volume) e
+      → (dirOf (m .volume) e) .encrypted ≡ true → (nodeOf (m .volume) e) .kind ≤ 3 → BearsPolicy (dirOf (m .volume) e) (nodeOf (m .volume) e)

@@ -1,0 +1,48 @@
+-- Demand 2: "With the same key, what was encrypted decrypts to what it was." A block that was sealed is opened as it was, and the name that a create, link or
+-- rename gave is the one that show answers, at once and on any later volume that has the same entry, directory and key. Assumes nothing.
+use Prim.Native.Nat.{ℕ, _≤_}
+use mathlib.Core.Path.{_≡_}
+use mathlib.Core.Logic.{_≢_}
+use lib.ListN.{length, take}
+use Rattle.lists.specs.Bytes.{Bytes, ByteList}
+use Rattle.fscrypt.specs.Cipher.{Cipher}
+use Rattle.volume.specs.Request.{create, link, rename, show, seal, unseal, done, created, at, shown, outcome}
+use Rattle.volume.specs.Lookup.{keyOf, descriptorOf, inodeAt, entryAt}
+use Rattle.volume.specs.Step.{step}
+use Rattle.volume.specs.Sound.{Sound, keyAt, nodeAt, dirOf}
+use Rattle.volume.specs.TwoRuns.{Typed}
+use Rattle.volume.specs.declared.InodeNumber.{InodeNumber}
+use Rattle.volume.specs.declared.EntryNumber.{EntryNumber}
+use Rattle.volume.specs.declared.Inode.{Inode}
+use Rattle.volume.specs.declared.ShownEntry.{ShownEntry}
+use Rattle.volume.specs.declared.Form.the-variants.{Encoded}
+use Rattle.volume.specs.declared.Volume.{Volume}
+
+-- what the types say of a volume's keys and nonces: their bytes are bytes
+pub record Bytewise (v : Volume) : Type 0 where
+  pub keys : (k : ℕ) → ByteList ((keyAt v k) .bytes)
+  pub nonces : (i : ℕ) → ByteList ((nodeAt v i) .context .nonce)
+
+-- show answers this name for this entry, plain or decrypted, with any buffer that has room
+abbrev pub ShowsAs : Cipher → Volume → EntryNumber → Bytes → Type 0
+ShowsAs C v e n =
+    (b : Bytes) → 255 ≤ length b
+    → (s : ShownEntry) × ((step C v (show e b)) .answer ≡ shown s) × (s .form ≢ Encoded) × (take (s .len) ((step C v (show e b)) .buffer) ≡ n)
+
+-- two volumes hold the same key for an inode's policy
+abbrev pub SameKey : Volume → Volume → Inode → Type 0
+SameKey v w node = keyOf w (descriptorOf node) ≡ keyOf v (descriptorOf node)
+
+pub record SealedOpens (C : Cipher) : Type 0 where
+  pub blocks : (v : Volume) → Bytewise v → (i : InodeNumber) (number : ℕ) (b : Bytes) → ByteList b → (step C v (seal i number b)) .answer ≡ done
+      → step C ((step C v (seal i number b)) .volume) (unseal i number ((step C v (seal i number b)) .buffer)) ≡ outcome done b v
+  pub later-blocks : (v w : Volume) → Bytewise v → (i : InodeNumber) (number : ℕ) (b : Bytes) → ByteList b → inodeAt w i ≡ inodeAt v i → SameKey v w (inodeAt v i)
+      → (step C v (seal i number b)) .answer ≡ done → step C w (unseal i number ((step C v (seal i number b)) .buffer)) ≡ outcome done b w
+  pub created-names : (v : Volume) → Bytewise v → Sound v → (p : InodeNumber) (kind : ℕ) (n x : Bytes) → Typed (create p kind n x)
+      → (i : InodeNumber) (e : EntryNumber) → (step C v (create p kind n x)) .answer ≡ created i e → ShowsAs C ((step C v (create p kind n x)) .volume) e n
+  pub linked-names : (v : Volume) → Bytewise v → Sound v → (i p : InodeNumber) (n : Bytes) → Typed (link i p n)
+      → (e : EntryNumber) → (step C v (link i p n)) .answer ≡ at e → ShowsAs C ((step C v (link i p n)) .volume) e n
+  pub renamed-names : (v : Volume) → Bytewise v → (e : EntryNumber) (p : InodeNumber) (n : Bytes) → Typed (rename e p n)
+      → (step C v (rename e p n)) .answer ≡ done → ShowsAs C ((step C v (rename e p n)) .volume) e n
+  pub later-names : (v w : Volume) (e : EntryNumber) (n : Bytes) → entryAt w e ≡ entryAt v e → dirOf w (e .0) ≡ dirOf v (e .0) → SameKey v w (dirOf v (e .0))
+      → ShowsAs C v e n → ShowsAs C w e n
