@@ -1,3 +1,4 @@
+-- `cipher::inv_cipher` meets its contract: by the invariant of its loop and `invCipher-by`. Assumes nothing.
 use Prim.Native.Nat.{ℕ, _+_, _-_, _≤_, _<_}
 use native.Mathlib.Omega.{arith}
 use mathlib.Core.Path.{_≡_, refl}

@@ -1,3 +1,4 @@
+-- `cipher::inv_last_round` meets its contract: what its calls ensure, put together by congruence. Assumes nothing.
 use Rattle.aes.specs.Cipher.{roundKey, invLastRound}
 use borrow.Author.Needs.{needs}
 use Rattle.aes.proofs.cipher.inv_last_round.Statement.{statement}

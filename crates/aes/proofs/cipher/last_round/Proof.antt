@@ -1,3 +1,4 @@
+-- `cipher::last_round` meets its contract: what its calls ensure, put together by congruence. Assumes nothing.
 use Rattle.aes.specs.Cipher.{lastRound, roundKey}
 use borrow.Author.Needs.{needs}
 use Rattle.aes.proofs.cipher.last_round.Statement.{statement}

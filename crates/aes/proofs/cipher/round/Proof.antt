@@ -1,3 +1,4 @@
+-- `cipher::round` meets its contract: what its calls ensure, put together by congruence. Assumes nothing.
 use Rattle.aes.specs.Cipher.{round, roundKey}
 use borrow.Author.Needs.{needs}
 use Rattle.aes.proofs.cipher.round.Statement.{statement}

@@ -1,3 +1,4 @@
+-- `key_expansion::key_expansion` meets its contract: by the invariant of its loop and `expand-end`. Assumes nothing.
 use mathlib.Core.List.{_++_}
 use Rattle.aes.specs.KeyExpansion.{expanded}
 use Rattle.aes.proofs.Schedule.{expand-turn, expand-end}

@@ -1,3 +1,4 @@
+-- `key_expansion::rcon` meets its contract: what its calls ensure, put together by congruence. Assumes nothing.
 use Rattle.aes.specs.KeyExpansion.{rcon}
 use borrow.Author.Needs.{needs}
 use Rattle.aes.proofs.key_expansion.rcon.Statement.{statement}

@@ -1,3 +1,4 @@
+-- `key_expansion::temp` meets its contract: by the laws `temp-zero`, `temp-four`, from what its calls ensure. Assumes nothing.
 use Rattle.aes.proofs.Schedule.{temp-zero, temp-four, temp-other, temp-short, rcon-index}
 use native.Mathlib.Omega.{arith}
 use borrow.Author.Needs.{needs}

@@ -1,3 +1,4 @@
+-- `key_expansion::x_power` meets its contract: by the invariant of its loop. Assumes nothing.
 use Rattle.aes.specs.KeyExpansion.{xPower}
 use Rattle.aes.proofs.Schedule.{xPower-next}
 use Prim.Native.Nat.{ℕ, _+_, _*_, _≤_, _<_, _-_}

@@ -1,3 +1,4 @@
+-- `states::add_round_key` meets its contract: what its calls ensure, put together by congruence. Assumes nothing.
 use Rattle.aes.specs.States.{addRoundKey}
 use borrow.Author.Needs.{needs}
 use Rattle.aes.proofs.states.add_round_key.Statement.{statement}

@@ -1,3 +1,4 @@
+-- `states::inv_mix_columns` meets its contract: what its calls ensure, put together by congruence. Assumes nothing.
 use Rattle.aes.specs.States.{invMixColumns}
 use borrow.Author.Needs.{needs}
 use Rattle.aes.proofs.states.inv_mix_columns.Statement.{statement}

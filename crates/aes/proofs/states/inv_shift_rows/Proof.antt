@@ -1,3 +1,4 @@
+-- `states::inv_shift_rows` meets its contract: what its calls ensure, put together by congruence. Assumes nothing.
 use Rattle.aes.specs.States.{invShiftRows}
 use borrow.Author.Needs.{needs}
 use Rattle.aes.proofs.states.inv_shift_rows.Statement.{statement}

@@ -1,3 +1,4 @@
+-- `states::shift_rows` meets its contract: what its calls ensure, put together by congruence. Assumes nothing.
 use Rattle.aes.specs.States.{shiftRows}
 use borrow.Author.Needs.{needs}
 use Rattle.aes.proofs.states.shift_rows.Statement.{statement}

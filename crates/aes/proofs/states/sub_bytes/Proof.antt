@@ -1,3 +1,4 @@
+-- `states::sub_bytes` meets its contract: what its calls ensure, put together by congruence. Assumes nothing.
 use Rattle.aes.specs.States.{subBytes}
 use borrow.Author.Needs.{needs}
 use Rattle.aes.proofs.states.sub_bytes.Statement.{statement}

@@ -1,3 +1,4 @@
+-- `words::add_word` meets its contract: the search closes what is left. Assumes nothing.
 use Rattle.aes.specs.Words.{addWord}
 use Rattle.field.specs.Field.{_⊕_}
 use borrow.Author.Needs.{needs}

@@ -1,3 +1,4 @@
+-- `words::inv_mix_column` meets its contract: by the law `invMixColumn-rows`. Assumes nothing.
 use Rattle.aes.proofs.Columns.{mixed, invMixColumn-rows}
 use borrow.Author.Needs.{needs}
 use Rattle.aes.proofs.words.inv_mix_column.Statement.{statement}

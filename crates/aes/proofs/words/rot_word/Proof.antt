@@ -1,3 +1,4 @@
+-- `words::rot_word` meets its contract: the search closes what is left. Assumes nothing.
 use Rattle.aes.specs.Words.{rotWord}
 use borrow.Author.Needs.{needs}
 use Rattle.aes.proofs.words.rot_word.Statement.{statement}

@@ -1,3 +1,4 @@
+-- `words::store` meets its contract: the search closes what is left. Assumes nothing.
 use native.Mathlib.Omega.{arith}
 use lib.ListN.{length-set}
 use Rattle.aes.proofs.Put.{stores}

@@ -1,3 +1,4 @@
+-- `words::sub_word` meets its contract: what its calls ensure, put together by congruence. Assumes nothing.
 use Rattle.aes.specs.Words.{subWord}
 use borrow.Author.Needs.{needs}
 use Rattle.aes.proofs.words.sub_word.Statement.{statement}

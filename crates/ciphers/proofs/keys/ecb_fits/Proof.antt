@@ -1,3 +1,4 @@
+-- `keys::ecb_fits` meets its contract: by the laws `eq-eqb`, `le-leb`. Assumes nothing.
 use Prim.Native.Nat.{ℕ, _+_, _*_, _≤_, _<_, _-_}
 use native.Mathlib.Omega.{arith}
 use mathlib.Core.Path.{_≡_, refl, sym, ap, ap₂, _∙_}

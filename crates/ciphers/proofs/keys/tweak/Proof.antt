@@ -1,3 +1,4 @@
+-- `keys::tweak` meets its contract: by the laws `tweak-by`, `part-to-end`, from what its calls ensure. Assumes nothing.
 use Prim.Native.Nat.{ℕ, _+_, _*_, _/_, _≤_}
 use native.Mathlib.Omega.{arith}
 use mathlib.Core.Path.{_≡_, refl}

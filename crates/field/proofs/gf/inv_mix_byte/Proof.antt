@@ -1,3 +1,4 @@
+-- `gf::inv_mix_byte` meets its contract: what its calls ensure, put together by congruence. Assumes nothing.
 use Rattle.field.specs.Field.{_⊕_, dot}
 use borrow.Author.Needs.{needs}
 use Rattle.field.proofs.gf.inv_mix_byte.Statement.{statement}

@@ -1,3 +1,4 @@
+-- `gf::mix_byte` meets its contract: by the law `dot-mix`. Assumes nothing.
 use Rattle.field.specs.Field.{_⊕_}
 use Rattle.field.proofs.Factors.{dot-mix}
 use borrow.Author.Needs.{needs}

@@ -1,3 +1,4 @@
+-- `gf::times_09` meets its contract: by the law `times-09`. Assumes nothing.
 use Rattle.field.specs.Field.{_⊕_}
 use Rattle.field.proofs.Factors.{times-09}
 use borrow.Author.Needs.{needs}

@@ -1,3 +1,4 @@
+-- `gf::times_0b` meets its contract: by the law `times-0b`. Assumes nothing.
 use Rattle.field.specs.Field.{_⊕_}
 use Rattle.field.proofs.Factors.{times-0b}
 use borrow.Author.Needs.{needs}

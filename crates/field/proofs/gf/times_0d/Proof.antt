@@ -1,3 +1,4 @@
+-- `gf::times_0d` meets its contract: by the law `times-0d`. Assumes nothing.
 use Rattle.field.specs.Field.{_⊕_}
 use Rattle.field.proofs.Factors.{times-0d}
 use borrow.Author.Needs.{needs}

@@ -1,3 +1,4 @@
+-- `gf::times_0e` meets its contract: by the law `times-0e`. Assumes nothing.
 use Rattle.field.specs.Field.{_⊕_}
 use Rattle.field.proofs.Factors.{times-0e}
 use borrow.Author.Needs.{needs}

@@ -1,3 +1,4 @@
+-- `gf::x_times` meets its contract: the search closes what is left. Assumes nothing.
 use Rattle.field.specs.Field.{xTimes, _⊕_}
 use borrow.Author.Needs.{needs}
 use Rattle.field.proofs.gf.x_times.Statement.{statement}

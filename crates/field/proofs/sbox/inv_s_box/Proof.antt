@@ -1,3 +1,4 @@
+-- `sbox::inv_s_box` meets its contract: what its calls ensure, put together by congruence. Assumes nothing.
 use Rattle.field.specs.SBox.{invSBox, invSBoxTable}
 use borrow.Author.Needs.{needs}
 use Rattle.field.proofs.sbox.inv_s_box.Statement.{statement}

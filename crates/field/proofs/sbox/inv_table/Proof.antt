@@ -1,3 +1,4 @@
+-- `sbox::inv_table` meets its contract: the search closes what is left. Assumes nothing.
 use Rattle.field.specs.SBox.{invSBoxTable}
 use borrow.Author.Needs.{needs}
 use Rattle.field.proofs.sbox.inv_table.Statement.{statement}

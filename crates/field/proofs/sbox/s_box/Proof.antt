@@ -1,3 +1,4 @@
+-- `sbox::s_box` meets its contract: what its calls ensure, put together by congruence. Assumes nothing.
 use Rattle.field.specs.SBox.{sBox, sBoxTable}
 use borrow.Author.Needs.{needs}
 use Rattle.field.proofs.sbox.s_box.Statement.{statement}

@@ -1,3 +1,4 @@
+-- `sbox::table` meets its contract: the search closes what is left. Assumes nothing.
 use Rattle.field.specs.SBox.{sBoxTable}
 use borrow.Author.Needs.{needs}
 use Rattle.field.proofs.sbox.table.Statement.{statement}

@@ -1,3 +1,4 @@
+-- `cts::cbc_block` meets its contract: what its calls ensure, put together by congruence. Assumes nothing.
 use Rattle.modes.specs.Cts.{cbcStep}
 use borrow.Author.Needs.{needs}
 use Rattle.modes.proofs.cts.cbc_block.Statement.{statement}

@@ -1,3 +1,4 @@
+-- `cts::encrypt` meets its contract: by the laws `encrypted-long`, `encrypted-one`, from what its calls ensure. Assumes nothing.
 use Prim.Native.Nat.{ℕ, _+_, _*_, _≤_, _<_, _-_}
 use native.Mathlib.Omega.{arith}
 use mathlib.Core.Path.{_≡_, refl, sym, ap, ap₂, _∙_}

@@ -1,3 +1,4 @@
+-- `cts::fill` meets its contract: what its calls ensure, put together by congruence. Assumes nothing.
 use Rattle.modes.specs.Cts.{filled}
 use borrow.Author.Needs.{needs}
 use Rattle.modes.proofs.cts.fill.Statement.{statement}

@@ -1,3 +1,4 @@
+-- `cts::inv_cbc_block` meets its contract: what its calls ensure, put together by congruence. Assumes nothing.
 use Rattle.modes.specs.Cts.{cbcInvStep}
 use borrow.Author.Needs.{needs}
 use Rattle.modes.proofs.cts.inv_cbc_block.Statement.{statement}

@@ -1,3 +1,4 @@
+-- `cts::inv_last_two` meets its contract: by the law `untail-by`, from what its calls ensure. Assumes nothing.
 use Prim.Native.Nat.{ℕ, _+_, _*_, _≤_, _<_, _-_}
 use native.Mathlib.Omega.{arith}
 use mathlib.Core.Path.{_≡_, refl, sym, ap, ap₂, _∙_}

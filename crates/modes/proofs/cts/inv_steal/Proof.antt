@@ -1,3 +1,4 @@
+-- `cts::inv_steal` meets its contract: by the invariant of its loop and `unsteal-by`. Assumes nothing.
 use borrow.Author.Needs.{needs}
 use Prim.Native.Nat.{ℕ, _+_, _*_, _≤_, _<_, _-_}
 use native.Mathlib.Omega.{arith}

@@ -1,3 +1,4 @@
+-- `cts::steal` meets its contract: by the invariant of its loop and `steal-by`. Assumes nothing.
 use denote.Ref.{now}
 use Rattle.modes.specs.Cts.{cbcStep, cbcNext}
 use Rattle.modes.proofs.Walks.{Going, going-start, going-turn}

@@ -1,3 +1,4 @@
+-- `cts::store_front` meets its contract: by the invariant of its loop and `paste-end`. Assumes nothing.
 use denote.Ref.{now}
 use lib.Seq.{paste, paste-zero}
 use Rattle.aes.proofs.Put.{alone, paste-turn, paste-end}

@@ -1,3 +1,4 @@
+-- `ecb::encrypt` meets its contract: by the invariant of its loop and `going-end`, `ecb-walked`. Assumes nothing.
 use Prim.Native.Nat.{ℕ, _+_, _*_, _-_, _≤_, _<_}
 use native.Mathlib.Omega.{arith}
 use mathlib.Core.Path.{_≡_, refl, sym, _∙_, ap}

@@ -1,3 +1,4 @@
+-- `xts::block_enc` meets its contract: what its calls ensure, put together by congruence. Assumes nothing.
 use Rattle.modes.specs.Xts.{blockEnc}
 use borrow.Author.Needs.{needs}
 use Rattle.modes.proofs.xts.block_enc.Statement.{statement}

@@ -1,3 +1,4 @@
+-- `xts::encrypt` meets its contract: by the invariant of its loop and `going-end`. Assumes nothing.
 use Prim.Native.Nat.{ℕ, _+_, _*_, _≤_, _<_, _-_}
 use native.Mathlib.Omega.{arith}
 use mathlib.Core.Path.{_≡_, refl, sym, ap, ap₂, _∙_}

@@ -1,3 +1,4 @@
+-- `xts::low_word` meets its contract: the search closes what is left. Assumes nothing.
 use Rattle.modes.specs.Xts.{lowWord}
 use borrow.Author.Needs.{needs}
 use Rattle.modes.proofs.xts.low_word.Statement.{statement}

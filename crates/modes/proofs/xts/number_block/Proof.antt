@@ -1,3 +1,4 @@
+-- `xts::number_block` meets its contract: what its calls ensure, put together by congruence. Assumes nothing.
 use Rattle.modes.specs.Xts.{numberBlock}
 use borrow.Author.Needs.{needs}
 use Rattle.modes.proofs.xts.number_block.Statement.{statement}

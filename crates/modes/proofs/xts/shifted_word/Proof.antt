@@ -1,3 +1,4 @@
+-- `xts::shifted_word` meets its contract: the search closes what is left. Assumes nothing.
 use Rattle.modes.specs.Xts.{shiftedWord}
 use Rattle.field.specs.Field.{_⊕_}
 use borrow.Author.Needs.{needs}

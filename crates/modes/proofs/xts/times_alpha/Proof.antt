@@ -1,3 +1,4 @@
+-- `xts::times_alpha` meets its contract: what its calls ensure, put together by congruence. Assumes nothing.
 use Rattle.modes.specs.Xts.{timesAlpha}
 use borrow.Author.Needs.{needs}
 use Rattle.modes.proofs.xts.times_alpha.Statement.{statement}
