@@ -1,0 +1,82 @@
+-- The lines of tables of checks: a test on what a call returned, where the definition has the call's meaning; and the rulesets that find a way through a table.
+-- Assumes nothing.
+use mathlib.Core.Path.{_≡_, refl, sym, _∙_, ap}
+use mathlib.Core.Bool.{Bool, true, false, not, cond}
+use Prim.Native.Nat.{ℕ, _≤_}
+use lib.ListN.{length}
+use lib.Dec.{eqb}
+use borrow.Author.Tests.{eq-eqb, ne-eqb, lt-ltb, le-ltb, le-leb, lt-leb}
+use Rattle.lists.specs.Bytes.{Bytes}
+use Rattle.lists.proofs.Predicates.{and-no-left, and-no-right, and-yes, not-of-true, not-of-false, bool-via, eq-via, ne-via, lt-via, le-via, full-via, room-via}
+use Rattle.errno.specs.Refusals.{_⇒_, _>>_}
+use Rattle.errno.specs.declared.Errno.the-variants.{EUCLEAN}
+use Rattle.errno.specs.declared.Checked.{Checked}
+use Rattle.errno.specs.declared.Checked.the-variants.{Fine, Refused}
+use Rattle.errno.proofs.Chains.{stop, skip, halt, go-on}
+use Rattle.policy.specs.Policies.{policyCheck, readPolicy}
+use Rattle.policy.specs.declared.PolicyRead.{PolicyRead}
+use Rattle.policy.proofs.Codec.{readPolicy-checked}
+use Rattle.fscrypt.specs.Cipher.{Cipher}
+use Rattle.fscrypt.specs.Names.{nameCheck}
+use Rattle.fscrypt.specs.declared.NameRead.{NameRead}
+use Rattle.fscrypt.proofs.Padding.{name-fits}
+use Rattle.volume.specs.Volume.{nameOf}
+use Rattle.volume.specs.Lookup.{inodeAt, entryAt}
+use Rattle.volume.specs.Checks.{isUnreadable}
+use Rattle.volume.specs.declared.EntryNumber.{EntryNumber}
+use Rattle.volume.specs.declared.Inode.{Inode}
+use Rattle.volume.specs.declared.Entry.{Entry}
+use Rattle.volume.specs.declared.Volume.{Volume}
+use Rattle.names.specs.Shown.{shownRead}
+
+-- ---- a test on a field of a record that a call returned
+
+pub kind-eq-via : (x : Inode) (k : ℕ) (r : Inode) → r ≡ x → r .kind ≡ k → eqb (x .kind) k ≡ true
+kind-eq-via x k r e h = rw (← e) (eq-eqb _ _ h)
+
+pub kind-ne-via : (x : Inode) (k : ℕ) (r : Inode) → r ≡ x → (r .kind ≡ k → ⊥) → eqb (x .kind) k ≡ false
+kind-ne-via x k r e h = rw (← e) (ne-eqb _ _ h)
+
+pub plain-via : (x : Inode) (b : Bool) (r : Inode) → r ≡ x → not (r .encrypted) ≡ b → not (x .encrypted) ≡ b
+plain-via x b r e h = rw (← e) h
+
+pub len-eq-via : (x : Entry) (k : ℕ) (r : Entry) → r ≡ x → r .len ≡ k → eqb (x .len) k ≡ true
+len-eq-via x k r e h = rw (← e) (eq-eqb _ _ h)
+
+pub len-ne-via : (x : Entry) (k : ℕ) (r : Entry) → r ≡ x → (r .len ≡ k → ⊥) → eqb (x .len) k ≡ false
+len-ne-via x k r e h = rw (← e) (ne-eqb _ _ h)
+
+pub policy-via : (b : Bytes) (r : PolicyRead) → r ≡ readPolicy b → r .checked ≡ policyCheck b
+policy-via b r e = ap (λ (p : PolicyRead). p .checked) e ∙ readPolicy-checked b
+
+-- ---- ways through a table: of calls alone, of calls and comparisons, and where a line has a guard
+
+pub ruleset calls = (stop, skip, halt, go-on, bool-via, lt-via, le-via, full-via, room-via)
+
+pub ruleset lines = (calls, not-of-true, not-of-false, eq-eqb, ne-eqb, lt-ltb, le-ltb, le-leb, lt-leb, eq-via, ne-via, kind-eq-via, kind-ne-via, plain-via, len-eq-via, len-ne-via, policy-via)
+
+pub ruleset guarded = (stop, skip, bool-via, eq-eqb, ne-eqb, not-of-true, not-of-false, and-no-left, and-no-right, and-yes)
+
+-- ---- what a name that passed tells, and what a shown name tells
+
+-- a name that passed its check fits a slot
+pub fits : (n : Bytes) (r : Checked) → r ≡ nameCheck n → r ≡ Fine → length n ≤ 255
+fits n r e h = name-fits n (sym e ∙ h)
+
+cond-line : (b : Bool) → cond b (Refused EUCLEAN) Fine ≡ _>>_ (b ⇒ EUCLEAN) Fine
+unfolding _>>_ _⇒_
+cond-line true = refl
+cond-line false = refl
+
+shown-line : (C : Cipher) (v : Volume) (dir : Inode) (n : EntryNumber) (s : Bytes) → (shownRead C v dir n s) .checked ≡ _>>_ (isUnreadable C v dir s ⇒ EUCLEAN) Fine
+unfolding shownRead
+shown-line C v dir n s = cond-line (isUnreadable C v dir s)
+
+-- the end of `showCheck`
+pub shown-via : (C : Cipher) (v : Volume) (n : EntryNumber) (x : Entry) (dir : Inode) (r : NameRead) → x ≡ entryAt v n → dir ≡ inodeAt v (x .parent) → r ≡ shownRead C v dir n (nameOf x)
+    → r .checked ≡ _>>_ (isUnreadable C v (inodeAt v (entryAt v n .parent)) (nameOf (entryAt v n)) ⇒ EUCLEAN) Fine
+shown-via C v n x dir r e d h =
+    ap (λ (q : NameRead). q .checked) h
+    ∙ shown-line C v dir n (nameOf x)
+    ∙ ap (λ (i : Inode). _>>_ (isUnreadable C v i (nameOf x) ⇒ EUCLEAN) Fine) d
+    ∙ ap (λ (y : Entry). _>>_ (isUnreadable C v (inodeAt v (y .parent)) (nameOf y) ⇒ EUCLEAN) Fine) e

@@ -1,0 +1,39 @@
+-- `exchange_check` is `exchangeCheck`: line by line of its table, the end of which is `swapCheck` of the entries that were looked up. Assumes nothing.
+use Rattle.volume.specs.Checks.{exchangeCheck}
+use Rattle.checks.specs.Parts.{swapCheck}
+use Rattle.checks.proofs.Lines.{lines}
+use borrow.Author.Needs.{needs}
+use Rattle.checks.proofs.directory.exchange_check.Statement.{statement}
+use Rattle.checks.proofs.directory.exchange_check.Tie as tie
+
+entry-at-requires : tie.Need-entry-at-requires
+entry-at-requires c κs = search needs
+
+returns : tie.Need-returns
+unfolding exchangeCheck
+returns c = search lines depth 25
+
+entry-at-requires-2 : tie.Need-entry-at-requires-2
+entry-at-requires-2 c κs = search needs
+
+returns-2 : tie.Need-returns-2
+unfolding exchangeCheck
+returns-2 c = search lines depth 25
+
+swap-check-requires : tie.Need-swap-check-requires
+swap-check-requires c κs = search needs
+
+returns-3 : tie.Need-returns-3
+unfolding exchangeCheck swapCheck
+returns-3 c = rw (← c .before .before .before .before .before .before .before .before .before .before .entry-at .ensures, ← c .before .before .before .before .before .before .before .entry-at2 .ensures) (search lines depth 25)
+
+pub exchange-check-spec : {M : Type 1} → statement M
+exchange-check-spec =
+    tie.close
+    (tie.spec
+    entry-at-requires
+    returns
+    entry-at-requires-2
+    returns-2
+    swap-check-requires
+    returns-3)

@@ -1,0 +1,79 @@
+-- `move_check` is `moveCheck`: line by line of its table. Assumes nothing.
+use Rattle.checks.specs.Parts.{moveCheck}
+use Rattle.checks.proofs.Lines.{calls}
+use mathlib.Core.Path.{_≡_, sym, _∙_}
+use borrow.Author.Needs.{needs}
+use Rattle.checks.proofs.directory.move_check.Statement.{statement}
+use Rattle.checks.proofs.directory.move_check.Tie as tie
+
+directory-check-requires : tie.Need-directory-check-requires
+directory-check-requires c κs = search needs
+
+enum-known-e : tie.Need-enum-known-e
+enum-known-e c = search needs
+
+returns : tie.Need-returns
+unfolding moveCheck
+returns c = search calls depth 25
+
+enum-told : tie.Need-enum-told
+enum-told c = search needs
+
+is-key-needed-requires : tie.Need-is-key-needed-requires
+is-key-needed-requires c κs = search needs
+
+returns-2 : tie.Need-returns-2
+unfolding moveCheck
+returns-2 c = search calls depth 25
+
+is-key-needed-requires-2 : tie.Need-is-key-needed-requires-2
+is-key-needed-requires-2 c κs = search needs
+
+returns-3 : tie.Need-returns-3
+unfolding moveCheck
+returns-3 c = search calls depth 25
+
+is-refused-in-requires : tie.Need-is-refused-in-requires
+is-refused-in-requires c κs = search needs
+
+returns-4 : tie.Need-returns-4
+unfolding moveCheck
+returns-4 c = search calls depth 25
+
+is-under-itself-requires : tie.Need-is-under-itself-requires
+is-under-itself-requires c κs = search needs
+
+returns-5 : tie.Need-returns-5
+unfolding moveCheck
+returns-5 c = search calls depth 25
+
+entry-of-requires : tie.Need-entry-of-requires
+entry-of-requires c κs = (search needs, sym (c .before .before .before .before .before .is-key-needed2 .ensures) ∙ c .before .before .before .before .if2 .left)
+
+returns-6 : tie.Need-returns-6
+unfolding moveCheck
+returns-6 c = search calls depth 25
+
+returns-7 : tie.Need-returns-7
+unfolding moveCheck
+returns-7 c = search calls depth 25
+
+pub move-check-spec : {M : Type 1} → statement M
+move-check-spec =
+    tie.close
+    (tie.spec
+    directory-check-requires
+    enum-known-e
+    returns
+    enum-told
+    is-key-needed-requires
+    returns-2
+    is-key-needed-requires-2
+    returns-3
+    is-refused-in-requires
+    returns-4
+    is-under-itself-requires
+    returns-5
+    entry-of-requires
+    returns-6
+    returns-7)

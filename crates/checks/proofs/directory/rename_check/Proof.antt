@@ -1,0 +1,47 @@
+-- `rename_check` is `renameCheck`: line by line of its table, the end of which is `moveCheck` of the entry that was looked up. Assumes nothing.
+use Rattle.volume.specs.Checks.{renameCheck}
+use Rattle.checks.specs.Parts.{moveCheck}
+use Rattle.checks.proofs.Lines.{lines, fits}
+use borrow.Author.Needs.{needs}
+use Rattle.checks.proofs.directory.rename_check.Statement.{statement}
+use Rattle.checks.proofs.directory.rename_check.Tie as tie
+
+check-name-requires : tie.Need-check-name-requires
+check-name-requires c κs = search needs
+
+enum-known-e : tie.Need-enum-known-e
+enum-known-e c = search needs
+
+returns : tie.Need-returns
+unfolding renameCheck
+returns c = search lines depth 25
+
+enum-told : tie.Need-enum-told
+enum-told c = search needs
+
+entry-at-requires : tie.Need-entry-at-requires
+entry-at-requires c κs = search needs
+
+returns-2 : tie.Need-returns-2
+unfolding renameCheck
+returns-2 c = search lines depth 25
+
+move-check-requires : tie.Need-move-check-requires
+move-check-requires c κs = search fits
+
+returns-3 : tie.Need-returns-3
+unfolding renameCheck moveCheck
+returns-3 c = rw (← c .before .before .before .before .before .entry-at .ensures) (search lines depth 25)
+
+pub rename-check-spec : {M : Type 1} → statement M
+rename-check-spec =
+    tie.close
+    (tie.spec
+    check-name-requires
+    enum-known-e
+    returns
+    enum-told
+    entry-at-requires
+    returns-2
+    move-check-requires
+    returns-3)

@@ -1,0 +1,2 @@
+-- The definitions of checks.
+pub mod Parts

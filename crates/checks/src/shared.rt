@@ -1,0 +1,60 @@
+// Tests and chains that requests share.
+use errno::Checked;
+use errno::Errno;
+use lookup::inodes;
+use volume::Inode;
+use volume::InodeNumber;
+use volume::Volume;
+ghost use mathlib.Core.Path.{_≡_};
+ghost use Rattle.volume.specs.Lookup.{inodeAt, keyNeeded};
+ghost use Rattle.volume.specs.Checks.{directoryCheck, isPolicyRefused};
+
+// Whether the key of this inode is needed and absent.
+pub fn is_key_needed(v: Volume, p: InodeNumber) -> bool
+    ensures { λ r. ⌜ r ≡ keyNeeded v (inodeAt v p) ⌝ }
+{
+    let node = inodes::inode_at(v, p);
+    lookup::keyring::key_needed(v, node)
+}
+
+// Whether an encrypted directory would gain an inode that lacks its policy.
+fn is_policy_refused(dir: Inode, node: Inode) -> bool
+    ensures { λ r. ⌜ r ≡ isPolicyRefused dir node ⌝ }
+{
+    if !dir.encrypted {
+        return false;
+    }
+    if 3 < node.kind {
+        return false;
+    }
+    if !node.encrypted {
+        return true;
+    }
+    let own = node.context;
+    let its = dir.context;
+    let a = own.policy;
+    let b = its.policy;
+    !policy::same_policy(a, b)
+}
+
+pub fn is_refused_in(v: Volume, p: InodeNumber, n: InodeNumber) -> bool
+    ensures { λ r. ⌜ r ≡ isPolicyRefused (inodeAt v p) (inodeAt v n) ⌝ }
+{
+    let dir = inodes::inode_at(v, p);
+    let node = inodes::inode_at(v, n);
+    is_policy_refused(dir, node)
+}
+
+// Whether the parent exists and is a directory.
+pub fn directory_check(v: Volume, p: InodeNumber) -> Checked
+    ensures { λ r. ⌜ r ≡ directoryCheck v p ⌝ }
+{
+    let dir = inodes::inode_at(v, p);
+    if dir.kind == 0 {
+        return Checked::Refused(Errno::ENOENT);
+    }
+    if dir.kind != 1 {
+        return Checked::Refused(Errno::ENOTDIR);
+    }
+    Checked::Fine
+}

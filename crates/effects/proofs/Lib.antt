@@ -1,0 +1,3 @@
+-- The laws of effects.
+mod Acting
+mod Showing

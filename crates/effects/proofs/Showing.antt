@@ -1,0 +1,84 @@
+-- The effects of show, seal and open, over what code has looked up and made when it returns.
+-- Assumes nothing.
+use mathlib.Core.Path.{_≡_, sym, ap, _∙_}
+use mathlib.Core.Bool.{true, false}
+use Prim.Native.Nat.{ℕ, _<_}
+use lib.ListN.{length, take, getD}
+use lib.Seq.{getD-take}
+use borrow.Author.Tests.{not-false}
+use Rattle.lists.specs.Bytes.{Bytes, laidOver}
+use Rattle.lists.proofs.Tests.{if-true, if-false, and-known}
+use Rattle.fscrypt.specs.Cipher.{Cipher}
+use Rattle.fscrypt.specs.Names.{nameBytes, packed}
+use Rattle.fscrypt.specs.declared.NameRead.{NameRead}
+use Rattle.fscrypt.proofs.Padding.{nameBytes-packed}
+use Rattle.fscrypt.proofs.Shape.{Sized}
+use Rattle.names.specs.Shown.{shownRead}
+use Rattle.volume.specs.Volume.{nameOf}
+use Rattle.volume.specs.Request.{outcome, done, shown, show, seal, unseal}
+use Rattle.volume.specs.Lookup.{inodeAt, entryAt, keyPresent, keyNeeded}
+use Rattle.volume.specs.Checks.{derivedKey, shownName, formIn}
+use Rattle.volume.specs.Step.{effect}
+use Rattle.volume.specs.declared.InodeNumber.{InodeNumber}
+use Rattle.volume.specs.declared.EntryNumber.{EntryNumber}
+use Rattle.volume.specs.declared.Inode.{Inode}
+use Rattle.volume.specs.declared.Entry.{Entry}
+use Rattle.volume.specs.declared.Volume.{Volume}
+use Rattle.volume.specs.declared.Form.{Form}
+use Rattle.volume.specs.declared.Form.the-variants.{Plain, Decrypted, Encoded}
+
+-- ---- show
+
+-- a byte of a name is that byte of the array it stands in
+pub cut-byte : {n : ℕ} {b : Bytes} → Sized n b → (i : ℕ) → i < n → getD (take n b) i 0 ≡ getD b i 0
+cut-byte {n} {b} s i h = getD-take n b i 0 h
+
+module _ (v : Volume) (dir : Inode) where
+  pub form-plain : dir .encrypted ≡ false → Plain ≡ formIn v dir
+  unfolding formIn
+  form-plain e = sym (if-false _ _ e)
+
+  pub form-decrypted : dir .encrypted ≡ true → keyPresent v dir ≡ true → Decrypted ≡ formIn v dir
+  unfolding formIn
+  form-decrypted e k = sym (if-true _ _ e ∙ if-true _ _ k)
+
+  pub form-encoded : dir .encrypted ≡ true → keyPresent v dir ≡ false → Encoded ≡ formIn v dir
+  unfolding formIn
+  form-encoded e k = sym (if-true _ _ e ∙ if-false _ _ k)
+
+module _ (C : Cipher) (v : Volume) where
+  read-packed : (dir : Inode) (n : EntryNumber) (s : Bytes) (r : NameRead) → r ≡ shownRead C v dir n s → r .name ≡ packed (shownName C v dir n s)
+  unfolding shownRead
+  read-packed dir n s r h = ap (λ (x : NameRead). x .name) h
+
+  pub show-acts : (n : EntryNumber) (b b′ : Bytes) (e : Entry) (dir i : Inode) (r : NameRead) (f : Form) → e ≡ entryAt v n → dir ≡ inodeAt v (e .parent)
+      → r ≡ shownRead C v dir n (nameOf e) → b′ ≡ laidOver b (nameBytes (r .name)) → i ≡ inodeAt v (e .inode) → f ≡ formIn v dir
+      → outcome (shown (record { parent = e .parent; inode = e .inode; kind = i .kind; form = f; len = r .name .len })) b′ v ≡ effect C v (show n b)
+  unfolding effect
+  show-acts n b b′ e dir i r f he hd hr hb hi hf =
+      let p = read-packed dir n (nameOf e) r hr in
+      let t : nameBytes (r .name) ≡ shownName C v dir n (nameOf e) = ap nameBytes p ∙ nameBytes-packed (shownName C v dir n (nameOf e)) in
+      (λ j. outcome (shown (record { parent = e .parent; inode = e .inode; kind = hi j .kind; form = hf j; len = p j .len })) ((hb ∙ ap (laidOver b) t) j) v)
+      ∙ ap (λ (d : Inode). let m = shownName C v d n (nameOf e) in
+      outcome (shown (record { parent = e .parent; inode = e .inode; kind = inodeAt v (e .inode) .kind; form = formIn v d; len = length m })) (laidOver b m) v) hd
+      ∙ ap (λ (x : Entry). let m = shownName C v (inodeAt v (x .parent)) n (nameOf x) in
+      outcome (shown (record { parent = x .parent; inode = x .inode; kind = inodeAt v (x .inode) .kind; form = formIn v (inodeAt v (x .parent)); len = length m })) (laidOver b m) v) he
+
+  -- ---- seal and open
+
+  module _ (i : InodeNumber) (number : ℕ) (b b′ : Bytes) (node : Inode) (key : Bytes) (hn : node ≡ inodeAt v i) (hk : key ≡ derivedKey C v node) where
+    under : key ≡ derivedKey C v (inodeAt v i)
+    under = hk ∙ ap (derivedKey C v) hn
+
+    pub seal-acts : b′ ≡ C .seal key number b → outcome done b′ v ≡ effect C v (seal i number b)
+    unfolding effect
+    seal-acts h = ap (λ (x : Bytes). outcome done x v) (h ∙ ap (λ (k : Bytes). C .seal k number b) under)
+
+    pub open-acts : b′ ≡ C .unseal key number b → outcome done b′ v ≡ effect C v (unseal i number b)
+    unfolding effect
+    open-acts h = ap (λ (x : Bytes). outcome done x v) (h ∙ ap (λ (k : Bytes). C .unseal k number b) under)
+
+-- the inode read is encrypted and its key is not needed: it is there
+pub key-there : (v : Volume) (i : InodeNumber) (node : Inode) → node ≡ inodeAt v i → keyNeeded v (inodeAt v i) ≡ false → inodeAt v i .encrypted ≡ true → keyPresent v node ≡ true
+unfolding keyNeeded
+key-there v i node h k e = ap (keyPresent v) h ∙ not-false (keyPresent v (inodeAt v i)) (and-known e k)

@@ -1,0 +1,29 @@
+-- `open`: the block opened under the inode's derived key. Assumes nothing.
+use Rattle.fscrypt.specs.Cipher.{fscrypt}
+use Rattle.effects.proofs.Showing.{key-there, open-acts}
+use borrow.Author.Needs.{needs}
+use Rattle.effects.proofs.contents.open.Statement.{statement}
+use Rattle.effects.proofs.contents.open.Tie as tie
+
+inode-at-requires : tie.Need-inode-at-requires
+inode-at-requires c κs = search needs
+
+derived-key-requires : tie.Need-derived-key-requires
+derived-key-requires c κs = let s = c .before .before in key-there _ _ _ (c .inode-at .ensures) (s .pre .0) (s .pre .1)
+
+open-block-requires : tie.Need-open-block-requires
+open-block-requires c κs = search needs
+
+same-length : tie.Need-same-length
+same-length c = search needs
+
+returns : tie.Need-returns
+returns c =
+    let n = c .before .before .before .before .before .inode-at in
+    let k = c .before .before .before .before .derived-key in
+    open-acts fscrypt _ _ _ _ _ (n .result) (k .result) (n .ensures) (k .ensures) (c .before .before .open-block .ensures)
+
+pub open-spec : {M : Type 1} → statement M
+open-spec =
+    tie.close
+    (tie.spec inode-at-requires derived-key-requires open-block-requires same-length returns)

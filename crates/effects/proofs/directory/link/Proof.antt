@@ -1,0 +1,25 @@
+-- `link`: the entry stored in the lowest free slot. Assumes nothing.
+use Rattle.fscrypt.specs.Cipher.{fscrypt}
+use Rattle.effects.proofs.Acting.{link-acts}
+use borrow.Author.Needs.{needs}
+use Rattle.effects.proofs.directory.link.Statement.{statement}
+use Rattle.effects.proofs.directory.link.Tie as tie
+
+free-entry-requires : tie.Need-free-entry-requires
+free-entry-requires c κs = search needs
+
+stored-entry-requires : tie.Need-stored-entry-requires
+stored-entry-requires c κs = search needs
+
+with-entry-requires : tie.Need-with-entry-requires
+with-entry-requires c κs = search needs
+
+returns : tie.Need-returns
+returns c =
+    let k = c .before .before .free-entry in
+    let e = c .before .stored-entry in
+    link-acts fscrypt _ _ _ _ (k .result) (e .result) _ (k .ensures) (e .ensures) (c .with-entry .ensures)
+
+pub link-spec : {M : Type 1} → statement M
+link-spec =
+    tie.close (tie.spec free-entry-requires stored-entry-requires with-entry-requires returns)

@@ -1,0 +1,35 @@
+-- `remove`: a free entry stored, and then the inode freed if nothing holds it. Assumes nothing.
+use Rattle.fscrypt.specs.Cipher.{fscrypt}
+use Rattle.effects.proofs.Acting.{remove-acts}
+use borrow.Author.Needs.{needs}
+use Rattle.effects.proofs.directory.remove.Statement.{statement}
+use Rattle.effects.proofs.directory.remove.Tie as tie
+
+entry-at-requires : tie.Need-entry-at-requires
+entry-at-requires c κs = search needs
+
+blank-entry-requires : tie.Need-blank-entry-requires
+blank-entry-requires c κs = search needs
+
+with-entry-requires : tie.Need-with-entry-requires
+with-entry-requires c κs = search needs
+
+without-unheld-requires : tie.Need-without-unheld-requires
+without-unheld-requires c κs = search needs
+
+returns : tie.Need-returns
+returns c =
+    let e = c .before .before .before .entry-at in
+    let z = c .before .before .blank-entry in
+    let w = c .before .with-entry in
+    remove-acts fscrypt _ _ (e .result) (z .result) (w .result) _ (e .ensures) (z .ensures) (w .ensures) (c .without-unheld .ensures)
+
+pub remove-spec : {M : Type 1} → statement M
+remove-spec =
+    tie.close
+    (tie.spec
+    entry-at-requires
+    blank-entry-requires
+    with-entry-requires
+    without-unheld-requires
+    returns)

@@ -1,0 +1,34 @@
+-- `add_key`: refused as its check says, or done as its effect says. Assumes nothing.
+use mathlib.Core.Path.{_≡_, sym, _∙_}
+use Rattle.fscrypt.specs.Cipher.{fscrypt}
+use Rattle.volume.specs.Step.{lent, check}
+use Rattle.requests.proofs.Settling.{refuses, acts, key-room}
+use denote.Ref.{now}
+use borrow.Author.Needs.{needs}
+use Rattle.requests.proofs.add_key.Statement.{statement}
+use Rattle.requests.proofs.add_key.Tie as tie
+
+add-key-check-requires : tie.Need-add-key-check-requires
+add-key-check-requires c κs = search needs
+
+enum-known-e : tie.Need-enum-known-e
+enum-known-e c = search needs
+
+enum-told : tie.Need-enum-told
+enum-told c = search needs
+
+add-key-requires : tie.Need-add-key-requires
+add-key-requires c κs = let k = key-room _ _ (now (c .before .before .before .before .args .key)) (sym (c .before .before .add-key-check .ensures) ∙ c .enum-told .given .1) in (k .fits, k .room)
+
+returns : tie.Need-returns
+unfolding check lent
+returns c = refuses fscrypt _ _ _ (c .before .before .before .add-key-check .ensures) _ (c .before .e .given .1)
+
+returns-2 : tie.Need-returns-2
+unfolding check
+returns-2 c = acts fscrypt _ _ _ (c .before .before .before .add-key-check .ensures) _ (c .before .enum-told .given .1) (c .add-key .ensures)
+
+pub add-key-spec : {M : Type 1} → statement M
+add-key-spec =
+    tie.close
+    (tie.spec add-key-check-requires enum-known-e enum-told add-key-requires returns returns-2)

@@ -1,0 +1,33 @@
+-- `create`: refused as its check says, or done as its effect says. Assumes nothing.
+use mathlib.Core.Path.{_≡_, sym, _∙_}
+use Rattle.fscrypt.specs.Cipher.{fscrypt}
+use Rattle.volume.specs.Step.{lent, check}
+use Rattle.requests.proofs.Settling.{refuses, acts, create-room}
+use borrow.Author.Needs.{needs}
+use Rattle.requests.proofs.create.Statement.{statement}
+use Rattle.requests.proofs.create.Tie as tie
+
+create-check-requires : tie.Need-create-check-requires
+create-check-requires c κs = search needs
+
+enum-known-e : tie.Need-enum-known-e
+enum-known-e c = search needs
+
+enum-told : tie.Need-enum-told
+enum-told c = search needs
+
+create-requires : tie.Need-create-requires
+create-requires c κs = let k = create-room fscrypt _ _ _ _ _ (sym (c .before .before .create-check .ensures) ∙ c .enum-told .given .1) in (k .name .fits, (k .name .key, (k .known, (k .inode, k .entry))))
+
+returns : tie.Need-returns
+unfolding check lent
+returns c = refuses fscrypt _ _ _ (c .before .before .before .create-check .ensures) _ (c .before .e .given .1)
+
+returns-2 : tie.Need-returns-2
+unfolding check
+returns-2 c = acts fscrypt _ _ _ (c .before .before .before .create-check .ensures) _ (c .before .enum-told .given .1) (c .create .ensures)
+
+pub create-spec : {M : Type 1} → statement M
+create-spec =
+    tie.close
+    (tie.spec create-check-requires enum-known-e enum-told create-requires returns returns-2)

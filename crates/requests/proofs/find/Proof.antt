@@ -1,0 +1,32 @@
+-- `find`: refused as its check says, or done as its effect says. Assumes nothing.
+use mathlib.Core.Path.{_≡_, sym, _∙_}
+use Rattle.fscrypt.specs.Cipher.{fscrypt}
+use Rattle.volume.specs.Step.{lent, check}
+use Rattle.requests.proofs.Settling.{refuses, acts, find-room}
+use borrow.Author.Needs.{needs}
+use Rattle.requests.proofs.find.Statement.{statement}
+use Rattle.requests.proofs.find.Tie as tie
+
+find-check-requires : tie.Need-find-check-requires
+find-check-requires c κs = search needs
+
+enum-known-e : tie.Need-enum-known-e
+enum-known-e c = search needs
+
+enum-told : tie.Need-enum-told
+enum-told c = search needs
+
+find-requires : tie.Need-find-requires
+find-requires c κs = let k = find-room fscrypt _ _ _ (sym (c .before .before .find-check .ensures) ∙ c .enum-told .given .1) in (k .fits, k .key)
+
+returns : tie.Need-returns
+unfolding check lent
+returns c = refuses fscrypt _ _ _ (c .before .before .before .find-check .ensures) _ (c .before .e .given .1)
+
+returns-2 : tie.Need-returns-2
+unfolding check
+returns-2 c = acts fscrypt _ _ _ (c .before .before .before .find-check .ensures) _ (c .before .enum-told .given .1) (c .find .ensures)
+
+pub find-spec : {M : Type 1} → statement M
+find-spec =
+    tie.close (tie.spec find-check-requires enum-known-e enum-told find-requires returns returns-2)

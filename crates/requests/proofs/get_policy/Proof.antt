@@ -1,0 +1,39 @@
+-- `get_policy`: refused as its check says, or done as its effect says. Assumes nothing.
+use mathlib.Core.Path.{_≡_, sym, _∙_}
+use Rattle.fscrypt.specs.Cipher.{fscrypt}
+use Rattle.volume.specs.Step.{lent, check}
+use Rattle.requests.proofs.Settling.{refuses, acts}
+use borrow.Author.Needs.{needs}
+use Rattle.requests.proofs.get_policy.Statement.{statement}
+use Rattle.requests.proofs.get_policy.Tie as tie
+
+get-policy-check-requires : tie.Need-get-policy-check-requires
+get-policy-check-requires c κs = search needs
+
+enum-known-e : tie.Need-enum-known-e
+enum-known-e c = search needs
+
+enum-told : tie.Need-enum-told
+enum-told c = search needs
+
+get-policy-requires : tie.Need-get-policy-requires
+get-policy-requires c κs = search needs
+
+returns : tie.Need-returns
+unfolding check lent
+returns c = refuses fscrypt _ _ _ (c .before .before .before .get-policy-check .ensures) _ (c .before .e .given .1)
+
+returns-2 : tie.Need-returns-2
+unfolding check
+returns-2 c = acts fscrypt _ _ _ (c .before .before .before .get-policy-check .ensures) _ (c .before .enum-told .given .1) (c .get-policy .ensures)
+
+pub get-policy-spec : {M : Type 1} → statement M
+get-policy-spec =
+    tie.close
+    (tie.spec
+    get-policy-check-requires
+    enum-known-e
+    enum-told
+    get-policy-requires
+    returns
+    returns-2)

@@ -1,0 +1,32 @@
+-- `link`: refused as its check says, or done as its effect says. Assumes nothing.
+use mathlib.Core.Path.{_≡_, sym, _∙_}
+use Rattle.fscrypt.specs.Cipher.{fscrypt}
+use Rattle.volume.specs.Step.{lent, check}
+use Rattle.requests.proofs.Settling.{refuses, acts, link-room}
+use borrow.Author.Needs.{needs}
+use Rattle.requests.proofs.link.Statement.{statement}
+use Rattle.requests.proofs.link.Tie as tie
+
+link-check-requires : tie.Need-link-check-requires
+link-check-requires c κs = search needs
+
+enum-known-e : tie.Need-enum-known-e
+enum-known-e c = search needs
+
+enum-told : tie.Need-enum-told
+enum-told c = search needs
+
+link-requires : tie.Need-link-requires
+link-requires c κs = let k = link-room fscrypt _ _ _ _ (sym (c .before .before .link-check .ensures) ∙ c .enum-told .given .1) in (k .name .fits, (k .name .key, k .entry))
+
+returns : tie.Need-returns
+unfolding check lent
+returns c = refuses fscrypt _ _ _ (c .before .before .before .link-check .ensures) _ (c .before .e .given .1)
+
+returns-2 : tie.Need-returns-2
+unfolding check
+returns-2 c = acts fscrypt _ _ _ (c .before .before .before .link-check .ensures) _ (c .before .enum-told .given .1) (c .link .ensures)
+
+pub link-spec : {M : Type 1} → statement M
+link-spec =
+    tie.close (tie.spec link-check-requires enum-known-e enum-told link-requires returns returns-2)

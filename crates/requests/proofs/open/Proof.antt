@@ -1,0 +1,43 @@
+-- `open`: refused as its check says, or done as its effect says. Assumes nothing.
+use mathlib.Core.Path.{_≡_, sym, _∙_}
+use Rattle.fscrypt.specs.Cipher.{fscrypt}
+use Rattle.volume.specs.Step.{lent, check}
+use Rattle.requests.proofs.Settling.{refuses, acts, block-room}
+use borrow.Author.Needs.{needs}
+use Rattle.requests.proofs.open.Statement.{statement}
+use Rattle.requests.proofs.open.Tie as tie
+
+block-check-requires : tie.Need-block-check-requires
+block-check-requires c κs = search needs
+
+enum-known-e : tie.Need-enum-known-e
+enum-known-e c = search needs
+
+enum-told : tie.Need-enum-told
+enum-told c = search needs
+
+open-requires : tie.Need-open-requires
+open-requires c κs = let k = block-room _ _ _ (sym (c .before .before .before .block-check .ensures) ∙ c .before .enum-told .given .1) in (k .key, k .encrypted)
+
+returns : tie.Need-returns
+unfolding check lent
+returns c = refuses fscrypt _ _ _ (c .before .before .before .block-check .ensures) _ (c .before .e .given .1)
+
+same-length : tie.Need-same-length
+same-length c = search needs
+
+returns-2 : tie.Need-returns-2
+unfolding check
+returns-2 c = acts fscrypt _ _ _ (c .before .before .before .before .before .before .block-check .ensures) _ (c .before .before .before .before .enum-told .given .1) (c .before .before .«open» .ensures)
+
+pub open-spec : {M : Type 1} → statement M
+open-spec =
+    tie.close
+    (tie.spec
+    block-check-requires
+    enum-known-e
+    enum-told
+    open-requires
+    returns
+    same-length
+    returns-2)

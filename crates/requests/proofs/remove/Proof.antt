@@ -1,0 +1,33 @@
+-- `remove`: refused as its check says, or done as its effect says. Assumes nothing.
+use mathlib.Core.Path.{_≡_, sym, _∙_}
+use Rattle.fscrypt.specs.Cipher.{fscrypt}
+use Rattle.volume.specs.Step.{lent, check}
+use Rattle.requests.proofs.Settling.{refuses, acts}
+use borrow.Author.Needs.{needs}
+use Rattle.requests.proofs.remove.Statement.{statement}
+use Rattle.requests.proofs.remove.Tie as tie
+
+remove-check-requires : tie.Need-remove-check-requires
+remove-check-requires c κs = search needs
+
+enum-known-e : tie.Need-enum-known-e
+enum-known-e c = search needs
+
+enum-told : tie.Need-enum-told
+enum-told c = search needs
+
+remove-requires : tie.Need-remove-requires
+remove-requires c κs = search needs
+
+returns : tie.Need-returns
+unfolding check lent
+returns c = refuses fscrypt _ _ _ (c .before .before .before .remove-check .ensures) _ (c .before .e .given .1)
+
+returns-2 : tie.Need-returns-2
+unfolding check
+returns-2 c = acts fscrypt _ _ _ (c .before .before .before .remove-check .ensures) _ (c .before .enum-told .given .1) (c .remove .ensures)
+
+pub remove-spec : {M : Type 1} → statement M
+remove-spec =
+    tie.close
+    (tie.spec remove-check-requires enum-known-e enum-told remove-requires returns returns-2)

@@ -1,0 +1,39 @@
+-- `remove_key`: refused as its check says, or done as its effect says. Assumes nothing.
+use mathlib.Core.Path.{_≡_, sym, _∙_}
+use Rattle.fscrypt.specs.Cipher.{fscrypt}
+use Rattle.volume.specs.Step.{lent, check}
+use Rattle.requests.proofs.Settling.{refuses, acts, key-held}
+use borrow.Author.Needs.{needs}
+use Rattle.requests.proofs.remove_key.Statement.{statement}
+use Rattle.requests.proofs.remove_key.Tie as tie
+
+remove-key-check-requires : tie.Need-remove-key-check-requires
+remove-key-check-requires c κs = search needs
+
+enum-known-e : tie.Need-enum-known-e
+enum-known-e c = search needs
+
+enum-told : tie.Need-enum-told
+enum-told c = search needs
+
+remove-key-requires : tie.Need-remove-key-requires
+remove-key-requires c κs = let k = key-held _ _ (sym (c .before .before .remove-key-check .ensures) ∙ c .enum-told .given .1) in k
+
+returns : tie.Need-returns
+unfolding check lent
+returns c = refuses fscrypt _ _ _ (c .before .before .before .remove-key-check .ensures) _ (c .before .e .given .1)
+
+returns-2 : tie.Need-returns-2
+unfolding check
+returns-2 c = acts fscrypt _ _ _ (c .before .before .before .remove-key-check .ensures) _ (c .before .enum-told .given .1) (c .remove-key .ensures)
+
+pub remove-key-spec : {M : Type 1} → statement M
+remove-key-spec =
+    tie.close
+    (tie.spec
+    remove-key-check-requires
+    enum-known-e
+    enum-told
+    remove-key-requires
+    returns
+    returns-2)

@@ -1,0 +1,33 @@
+-- `rename`: refused as its check says, or done as its effect says. Assumes nothing.
+use mathlib.Core.Path.{_≡_, sym, _∙_}
+use Rattle.fscrypt.specs.Cipher.{fscrypt}
+use Rattle.volume.specs.Step.{lent, check}
+use Rattle.requests.proofs.Settling.{refuses, acts, rename-room}
+use borrow.Author.Needs.{needs}
+use Rattle.requests.proofs.rename.Statement.{statement}
+use Rattle.requests.proofs.rename.Tie as tie
+
+rename-check-requires : tie.Need-rename-check-requires
+rename-check-requires c κs = search needs
+
+enum-known-e : tie.Need-enum-known-e
+enum-known-e c = search needs
+
+enum-told : tie.Need-enum-told
+enum-told c = search needs
+
+rename-requires : tie.Need-rename-requires
+rename-requires c κs = let k = rename-room fscrypt _ _ _ _ (sym (c .before .before .rename-check .ensures) ∙ c .enum-told .given .1) in (k .fits, k .key)
+
+returns : tie.Need-returns
+unfolding check lent
+returns c = refuses fscrypt _ _ _ (c .before .before .before .rename-check .ensures) _ (c .before .e .given .1)
+
+returns-2 : tie.Need-returns-2
+unfolding check
+returns-2 c = acts fscrypt _ _ _ (c .before .before .before .rename-check .ensures) _ (c .before .enum-told .given .1) (c .rename .ensures)
+
+pub rename-spec : {M : Type 1} → statement M
+rename-spec =
+    tie.close
+    (tie.spec rename-check-requires enum-known-e enum-told rename-requires returns returns-2)

@@ -1,0 +1,43 @@
+-- `show`: refused as its check says, or done as its effect says. Assumes nothing.
+use mathlib.Core.Path.{_≡_, sym, _∙_}
+use Rattle.fscrypt.specs.Cipher.{fscrypt}
+use Rattle.volume.specs.Step.{lent, check}
+use Rattle.requests.proofs.Settling.{refuses, acts, show-room}
+use borrow.Author.Needs.{needs}
+use Rattle.requests.proofs.show.Statement.{statement}
+use Rattle.requests.proofs.show.Tie as tie
+
+show-check-requires : tie.Need-show-check-requires
+show-check-requires c κs = search needs
+
+enum-known-e : tie.Need-enum-known-e
+enum-known-e c = search needs
+
+enum-told : tie.Need-enum-told
+enum-told c = search needs
+
+show-requires : tie.Need-show-requires
+show-requires c κs = let k = show-room fscrypt _ _ _ (sym (c .before .before .before .show-check .ensures) ∙ c .before .enum-told .given .1) in k
+
+returns : tie.Need-returns
+unfolding check lent
+returns c = refuses fscrypt _ _ _ (c .before .before .before .show-check .ensures) _ (c .before .e .given .1)
+
+same-length : tie.Need-same-length
+same-length c = search needs
+
+returns-2 : tie.Need-returns-2
+unfolding check
+returns-2 c = acts fscrypt _ _ _ (c .before .before .before .before .before .before .show-check .ensures) _ (c .before .before .before .before .enum-told .given .1) (c .before .before .show .ensures)
+
+pub show-spec : {M : Type 1} → statement M
+show-spec =
+    tie.close
+    (tie.spec
+    show-check-requires
+    enum-known-e
+    enum-told
+    show-requires
+    returns
+    same-length
+    returns-2)

@@ -1,0 +1,2 @@
+-- The definitions of requests.
+pub mod Claims
