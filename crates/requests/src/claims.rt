@@ -8,23 +8,19 @@ ghost use Rattle.requests.specs.Claims.{AlwaysSound};
 // After every request of every list, the volume is sound.
 pub fn every_volume_is_sound()
     ensures { λ _. ⌜ AlwaysSound fscrypt ⌝ }
-{
-}
+{}
 
 // Link, rename and exchange give the policy refusal exactly when an encrypted directory would gain what lacks its policy; so at no time does one stand there.
 pub fn policies_hold()
     ensures { λ _. ⌜ PolicyClause fscrypt ⌝ }
-{
-}
+{}
 
 // What was sealed opens, and a name that was given is the name that is shown.
 pub fn sealed_blocks_open()
     ensures { λ _. ⌜ SealedOpens fscrypt ⌝ }
-{
-}
+{}
 
 // Demand 3: two lists that differ only in key bytes.
 pub fn two_runs_agree()
     ensures { λ _. ⌜ TwoRuns fscrypt ⌝ }
-{
-}
+{}
