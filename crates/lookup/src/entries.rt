@@ -47,15 +47,15 @@ fn is_vacant(e: Entry) -> bool
 pub fn free_entry(v: Volume) -> usize
     ensures { λ r. ⌜ r ≡ freeEntry v ⌝ }
 {
-    let mut i: usize = 0;
-    while i < ENTRY_SLOTS {
-        let e = v.entries[i];
+    let mut slot: usize = 0;
+    while slot < ENTRY_SLOTS {
+        let e = v.entries[slot];
         if is_vacant(e) {
-            return i;
+            return slot;
         }
-        i += 1;
+        slot += 1;
     }
-    i
+    slot
 }
 
 // Whether the entry is in use and stands in this directory.

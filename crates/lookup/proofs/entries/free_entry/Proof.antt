@@ -1,4 +1,4 @@
--- `free_entry` is `freeEntry`: the first free record. The loop's invariant: nothing before slot `i` passes the test (`Searched`).
+-- `free_entry` is `freeEntry`: the first free record. The loop's invariant: nothing before `slot` passes the test (`Searched`).
 -- The measure is how many slots are left. Assumes nothing.
 use Prim.Native.Nat.{_-_}
 use native.Mathlib.Omega.{arith}
@@ -10,10 +10,10 @@ use Rattle.lookup.proofs.entries.free_entry.Statement.{statement}
 use Rattle.lookup.proofs.entries.free_entry.Tie as tie
 
 abbrev Inv-loop : tie.InvT-loop
-Inv-loop v i₀ i = Searched isVacant (v .entries) 64 i
+Inv-loop v slot₀ slot = Searched isVacant (v .entries) 64 slot
 
 abbrev μ-loop : tie.MeasureT-loop
-μ-loop v i₀ i = 64 - i
+μ-loop v slot₀ slot = 64 - slot
 
 loop-holds : tie.Need-loop-holds Inv-loop μ-loop
 loop-holds c = begun (shaped (c .args .t1) (c .good .0) .entries)
@@ -31,8 +31,8 @@ returns : tie.Need-returns Inv-loop μ-loop
 unfolding freeEntry
 returns c = found (c .before .before .before .before .loop .inv) (omega arith) _ (c .before .is-vacant .ensures) (c .if1 .taken)
 
-add-i : tie.Need-add-i Inv-loop μ-loop
-add-i c = search needs
+add-slot : tie.Need-add-slot Inv-loop μ-loop
+add-slot c = search needs
 
 loop-less : tie.Need-loop-less Inv-loop μ-loop
 loop-less c = search needs
@@ -55,7 +55,7 @@ free-entry-spec =
     element-copy-out-e
     is-vacant-requires
     returns
-    add-i
+    add-slot
     loop-less
     loop-again
     returns-2)
