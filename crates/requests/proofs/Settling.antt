@@ -8,7 +8,7 @@ use native.Mathlib.Omega.{arith}
 use lib.ListN.{length, replicate, set}
 use lib.Dec.{eqb, leb, ltb}
 use borrow.Author.Tests.{ltb-false, leb-false, eqb-true, not-false}
-use Rattle.lists.specs.Bytes.{Bytes}
+use Rattle.lists.specs.Bytes.{Bytes, zeros}
 use Rattle.lists.proofs.Tests.{or-right, not-false as not-no}
 use Rattle.errno.specs.Refusals.{number, _⇒_, _>>_}
 use Rattle.errno.specs.declared.Errno.{Errno}
@@ -18,16 +18,19 @@ use Rattle.errno.proofs.Chains.{passed, passed-test}
 use Rattle.fscrypt.specs.Cipher.{Cipher}
 use Rattle.fscrypt.proofs.Padding.{name-fits}
 use Rattle.volume.specs.Volume.{noKey, noInode, noEntry, fresh}
-use Rattle.volume.specs.Request.{Request, refused, Outcome, outcome}
+use Rattle.volume.specs.Request.{Request, Answer, refused, policyIs, Outcome, outcome, policyAnswered}
 use Rattle.volume.specs.Lookup.{keySlotOf, freeKeySlot, freeInode, freeEntry, inodeAt, keyNeeded}
 use Rattle.volume.specs.Checks.{isBadKind, isBadKeyLength, addKeyCheck, removeKeyCheck, createCheck, linkCheck, renameCheck, findCheck, showCheck, blockCheck}
 use Rattle.volume.specs.Step.{lent, check, effect, settle, step}
 use Rattle.volume.specs.declared.InodeNumber.{InodeNumber}
 use Rattle.volume.specs.declared.EntryNumber.{EntryNumber}
+use Rattle.volume.specs.declared.Reply.{Reply}
+use Rattle.volume.specs.declared.Reply.the-variants.{Done, Refused as NotDone}
 use Rattle.volume.specs.declared.Inode.{Inode}
 use Rattle.volume.specs.declared.Key.{Key}
 use Rattle.volume.specs.declared.Entry.{Entry}
 use Rattle.volume.specs.declared.Volume.{Volume}
+use Rattle.requests.specs.Answers.{policyBeside}
 
 -- k is what the check's function returned
 module _ (C : Cipher) (v : Volume) (r : Request) (k : Checked) (h : k ≡ check C v r) where
@@ -170,3 +173,15 @@ fresh-by k n e hk hn he i =
       inodes = set (replicate 64 (hn i)) 0 (record { kind = 1; encrypted = (hn i) .encrypted; context = (hn i) .context });
       entries = replicate 64 (he i);
     }
+
+-- ---- the bytes beside get policy's answer
+
+answered-policy : (a : Reply) (p q : Bytes) → policyAnswered a p ≡ policyIs q → p ≡ q
+answered-policy Done p q h = cc
+answered-policy (NotDone e) p q h = absurd (let z : _≡_ {A = ℕ} 0 1 = cc in omega arith)
+
+pub policy-beside : (a : Reply) (p q : Bytes) (b : Bytes) (v : Volume) (o : Outcome) → outcome (policyAnswered a p) b v ≡ o → policyAnswered a p ≡ policyIs q → p ≡ policyBeside (o .answer)
+policy-beside a p q b v o e h = answered-policy a p q h ∙ sym (ap (λ (x : Outcome). policyBeside (x .answer)) (sym e) ∙ ap policyBeside h)
+
+pub zeros-beside : (n : ℕ) (b : Bytes) (v : Volume) (o : Outcome) → outcome (refused n) b v ≡ o → zeros 12 ≡ policyBeside (o .answer)
+zeros-beside n b v o e = ap (λ (x : Outcome). policyBeside (x .answer)) e

@@ -1,2 +1,3 @@
 -- The definitions of requests.
+pub mod Answers
 pub mod Claims

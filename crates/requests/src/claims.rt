@@ -5,7 +5,7 @@ ghost use Rattle.volume.specs.SealedOpens.{SealedOpens};
 ghost use Rattle.volume.specs.TwoRuns.{TwoRuns};
 ghost use Rattle.requests.specs.Claims.{AlwaysSound};
 
-// After every request of every list, the volume is sound.
+// A fresh volume is sound, and so is the volume after every request of every list.
 pub fn every_volume_is_sound()
     ensures { λ _. ⌜ AlwaysSound fscrypt ⌝ }
 {}

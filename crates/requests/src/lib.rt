@@ -24,6 +24,7 @@ ghost use Rattle.volume.specs.Volume.{fresh as freshVolume};
 ghost use Rattle.volume.specs.Request.{outcome, replied, createAnswered, entryAnswered, policyAnswered, showAnswered};
 ghost use Rattle.volume.specs.Request;
 ghost use Rattle.volume.specs.Step.{step};
+ghost use Rattle.requests.specs.Answers.{policyBeside};
 
 // A volume with the root directory and nothing else.
 pub fn fresh() -> Volume
@@ -81,8 +82,9 @@ pub fn set_policy(v: Volume, inode: InodeNumber, policy: &[u8], nonce: [u8; 16])
     }
 }
 
+// The policy of an inode; where it is refused, the bytes beside the refusal are zeros.
 pub fn get_policy(v: Volume, inode: InodeNumber) -> PolicyOutcome
-    ensures { λ r. ⌜ outcome (policyAnswered (r .answer) (r .policy)) [] v ≡ step fscrypt v (Request.getPolicy inode) ⌝ }
+    ensures { λ r. ⌜ (outcome (policyAnswered (r .answer) (r .policy)) [] v ≡ step fscrypt v (Request.getPolicy inode)) × (r .policy ≡ policyBeside ((step fscrypt v (Request.getPolicy inode)) .answer)) ⌝ }
 {
     match keyring::get_policy_check(v, inode) {
         Checked::Refused(e) => PolicyOutcome {
