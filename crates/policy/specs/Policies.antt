@@ -1,5 +1,5 @@
 -- Policies and contexts, document 01, "Policy, context, derived key": their bytes, which are valid, when two are the same, and the sizes of keys.
--- Assumes nothing.
+-- Sentences in quotation marks are document 01's, in its words. Assumes nothing.
 use Prim.Native.Nat.{ℕ}
 use mathlib.Core.Bool.{Bool, true, false, cond, not, _&&_}
 use mathlib.Core.List.{List, [], _∷_, _++_}

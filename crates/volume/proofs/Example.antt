@@ -1,4 +1,4 @@
--- A run computed from the definitions, under a small cipher whose keys matter: it meets every form of answer and eleven refusals, so nothing that is
+-- A run computed from the definitions, under a small cipher whose keys matter: it meets every form of answer and ten different refusals, so nothing that is
 -- stated about runs is stated of nothing. Assumes nothing.
 use Prim.Native.Nat.{ℕ, _+_, _-_, _%_}
 use mathlib.Core.Path.{_≡_, refl}

@@ -1,4 +1,5 @@
--- When a request is refused, and with what: for each request its checks, in document 01's order. Assumes nothing.
+-- When a request is refused, and with what: for each request its checks, in document 01's order.
+-- Sentences in quotation marks are document 01's, in its words. Assumes nothing.
 use Prim.Native.Nat.{ℕ}
 use mathlib.Core.Bool.{Bool, true, false, cond, not, _&&_, _||_}
 use mathlib.Core.List.{List}

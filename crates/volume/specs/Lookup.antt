@@ -1,4 +1,5 @@
--- What is looked up in a volume. A number that names nothing reads a free record. Assumes nothing.
+-- What is looked up in a volume. A number that names nothing reads a free record.
+-- Sentences in quotation marks are document 01's, in its words. Assumes nothing.
 use Prim.Native.Nat.{ℕ, zero, suc}
 use mathlib.Core.Bool.{Bool, true, false, cond, not, _&&_, _||_}
 use mathlib.Core.List.{List}

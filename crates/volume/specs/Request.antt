@@ -1,4 +1,5 @@
--- The thirteen requests and their answers, document 01, "What may be asked". Assumes nothing.
+-- The thirteen requests and their answers, document 01, "What may be asked".
+-- Sentences in quotation marks are document 01's, in its words. Assumes nothing.
 use Prim.Native.Nat.{ℕ}
 use Rattle.lists.specs.Bytes.{Bytes, zeros}
 use Rattle.errno.specs.Refusals.{number}

@@ -1,5 +1,5 @@
 -- What holds of every volume that started fresh and was changed by requests alone: document 01, "What stands on the shelf", a field for each rule.
--- Assumes nothing.
+-- Sentences in quotation marks are document 01's, in its words. Assumes nothing.
 use Prim.Native.Nat.{ℕ, _-_, _≤_, _<_}
 use mathlib.Core.Path.{_≡_}
 use mathlib.Core.Logic.{_≢_}

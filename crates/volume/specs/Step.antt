@@ -1,4 +1,5 @@
--- What each request does: its check, and where that is fine its effect. Assumes nothing.
+-- What each request does: its check, and where that is fine its effect.
+-- Sentences in quotation marks are document 01's, in its words. Assumes nothing.
 use Prim.Native.Nat.{ℕ}
 use mathlib.Core.Bool.{Bool, true, false, cond}
 use mathlib.Core.List.{List, [], _∷_}

@@ -1,4 +1,5 @@
--- The records of a volume, document 01, "What stands on the shelf". Assumes nothing.
+-- The records of a volume, document 01, "What stands on the shelf".
+-- Sentences in quotation marks are document 01's, in its words. Assumes nothing.
 use Prim.Native.Nat.{ℕ, _-_}
 use mathlib.Core.Bool.{Bool, true, false}
 use mathlib.Core.List.{List, [], _∷_, _++_}
