@@ -1,0 +1,7 @@
+-- The laws of script.
+pub mod Picks
+pub mod Places
+pub mod Digits
+pub mod Hex
+pub mod Lines
+pub mod Taking

@@ -1,0 +1,186 @@
+-- What a word that is taken comes to, case by case; and a word that is not the byte string of any length leaves the bytes beside the arguments.
+-- Assumes nothing.
+use Prim.Native.Nat.{ℕ, _<_, _≤_}
+use borrow.Author.Tests.{le-leb, lt-leb}
+use mathlib.Core.Path.{_≡_, refl, sym, _∙_, ap}
+use mathlib.Core.Bool.{Bool, true, false, cond, true≢false}
+use lib.ListN.{length, take, drop, drop-of-length-le}
+use lib.Dec.{eqb, leb}
+use native.Mathlib.Omega.{arith}
+use mathlib.Core.List.{List, [], _++_, append-nil}
+use lib.Seq.{take-append-seam}
+use Rattle.lists.specs.Bytes.{Bytes, same, zeros, laidOver}
+use Rattle.lists.proofs.Tests.{and-right, eqb-true}
+use Rattle.script.specs.Text.{text}
+use Rattle.script.specs.Words.{firstWord, afterWord}
+use Rattle.script.specs.Numbers.{numberOf}
+use Rattle.script.specs.Strings.{isByteString, bytesOf}
+use Rattle.script.specs.Commands.{bad, withFirst, withSecond, setSecond, withLen, withSize, withDescriptor, withNonce, isBytes, isEmpty, noArgs, taken, takenText, Reading, reading, nextTwo, readWords}
+use Rattle.script.specs.declared.Number.{Number}
+use Rattle.script.specs.declared.Number.the-variants.{Is, Not}
+use Rattle.script.specs.declared.Sort.{Sort}
+use Rattle.script.specs.declared.Sort.the-variants.{First, Second, Text, Descriptor, Nonce, Size, Nothing}
+use Rattle.script.specs.declared.Shape.{Shape}
+use Rattle.script.specs.declared.Args.{Args}
+
+abbrev isText : Sort → Bool
+isText First = false
+isText Second = false
+isText Text = true
+isText Descriptor = false
+isText Nonce = false
+isText Size = false
+isText Nothing = false
+
+module _ (a : Args) where
+  first : (n : Number) → (withFirst a n) .len ≡ a .len
+  first (Is n) = refl
+  first Not = refl
+
+  second : (n : Number) → (withSecond a n) .len ≡ a .len
+  second (Is n) = refl
+  second Not = refl
+
+  either : (t : Bool) (b c : Args) → b .len ≡ a .len → c .len ≡ a .len → (cond t b c) .len ≡ a .len
+  either true b c h k = h
+  either false b c h k = k
+
+  size : (n : Number) → (withSize a n) .len ≡ a .len
+  size (Is n) = either (leb n 4096) (setSecond a n) (bad a) refl refl
+  size Not = refl
+
+  pub kept : (w : Bytes) (s : Sort) → isText s ≡ false → (taken a s w) .len ≡ a .len
+  unfolding taken
+  kept w First h = first (numberOf w)
+  kept w Second h = second (numberOf w)
+  kept w Text h = absurd (true≢false h)
+  kept w Descriptor h = either (isBytes 8 w) (withDescriptor a (bytesOf w)) (bad a) refl refl
+  kept w Nonce h =
+      either (same w (text "-")) (withNonce a (zeros 16)) (cond (isBytes 16 w) (withNonce a (bytesOf w)) (bad a)) refl
+      (either (isBytes 16 w) (withNonce a (bytesOf w)) (bad a) refl refl)
+  kept w Size h = either (isEmpty w) (setSecond a 255) (withSize a (numberOf w)) refl (size (numberOf w))
+  kept w Nothing h = either (isEmpty w) a (bad a) refl refl
+
+  same-bytes : (w t : Bytes) (s : Sort) → isText s ≡ false → t ≡ takenText t s w
+  unfolding takenText
+  same-bytes w t First h = refl
+  same-bytes w t Second h = refl
+  same-bytes w t Text h = absurd (true≢false h)
+  same-bytes w t Descriptor h = refl
+  same-bytes w t Nonce h = refl
+  same-bytes w t Size h = refl
+  same-bytes w t Nothing h = refl
+
+  -- the sort that a match has told, and what was taken for it
+  pub took : (w b : Bytes) (s told : Sort) (r : Args) → s ≡ told → isText told ≡ false → r ≡ taken a told w → (r ≡ taken a s w) × (take (r .len) b ≡ takenText (take (a .len) b) s w)
+  took w b s told r t h e = (
+    e ∙ ap (λ (x : Sort). taken a x w) (sym t),
+    ap (λ (x : Args). take (x .len) b) e
+        ∙ ap (λ (n : ℕ). take n b) (kept w told h)
+        ∙ same-bytes w (take (a .len) b) told h
+        ∙ ap (λ (x : Sort). takenText (take (a .len) b) x w) (sym t),
+  )
+
+-- ---- the cases of `taken`
+
+module _ (a : Args) (w : Bytes) where
+  pub first-is : (n : Number) → n ≡ numberOf w → withFirst a n ≡ taken a First w
+  unfolding taken
+  first-is n e = ap (withFirst a) e
+
+  pub second-is : (n : Number) → n ≡ numberOf w → withSecond a n ≡ taken a Second w
+  unfolding taken
+  second-is n e = ap (withSecond a) e
+
+  pub text-is : isByteString w ≡ true → withLen a (length (bytesOf w)) ≡ taken a Text w
+  unfolding taken
+  text-is e = rw e
+
+  pub text-not : isByteString w ≡ false → bad a ≡ taken a Text w
+  unfolding taken
+  text-not e = rw e
+
+  pub bytes-are : (t : Bytes) → isByteString w ≡ true → bytesOf w ≡ takenText t Text w
+  unfolding takenText
+  bytes-are t e = rw e
+
+  pub bytes-stay : (t : Bytes) → isByteString w ≡ false → t ≡ takenText t Text w
+  unfolding takenText
+  bytes-stay t e = rw e
+
+  pub descriptor-is : isBytes 8 w ≡ true → withDescriptor a (bytesOf w) ≡ taken a Descriptor w
+  unfolding taken
+  descriptor-is e = rw e
+
+  pub descriptor-not : isBytes 8 w ≡ false → bad a ≡ taken a Descriptor w
+  unfolding taken
+  descriptor-not e = rw e
+
+  pub nonce-none : same w (text "-") ≡ true → withNonce a (zeros 16) ≡ taken a Nonce w
+  unfolding taken
+  nonce-none e = rw e
+
+  pub nonce-is : same w (text "-") ≡ false → isBytes 16 w ≡ true → withNonce a (bytesOf w) ≡ taken a Nonce w
+  unfolding taken
+  nonce-is d e = rw (d, e)
+
+  pub nonce-not : same w (text "-") ≡ false → isBytes 16 w ≡ false → bad a ≡ taken a Nonce w
+  unfolding taken
+  nonce-not d e = rw (d, e)
+
+  pub size-none : isEmpty w ≡ true → setSecond a 255 ≡ taken a Size w
+  unfolding taken
+  size-none e = rw e
+
+  pub size-is : isEmpty w ≡ false → (n : Number) → n ≡ numberOf w → withSize a n ≡ taken a Size w
+  unfolding taken
+  size-is e n h = rw e (ap (withSize a) h)
+
+  pub nothing-is : isEmpty w ≡ true → a ≡ taken a Nothing w
+  unfolding taken
+  nothing-is e = rw e
+
+  pub nothing-not : isEmpty w ≡ false → bad a ≡ taken a Nothing w
+  unfolding taken
+  nothing-not e = rw e
+
+-- a byte string of n bytes has n bytes
+pub isBytes-count : (n : ℕ) (w : Bytes) → isBytes n w ≡ true → length (bytesOf w) ≡ n
+isBytes-count n w e = eqb-true (and-right (isByteString w) (eqb (length (bytesOf w)) n) e)
+
+-- bytes laid over as many zeros
+pub laid-whole : (b s : Bytes) → length s ≡ length b → laidOver b s ≡ s
+laid-whole b s e = let h : length b ≤ length s = omega arith in ap (λ (r : Bytes). s ++ r) (drop-of-length-le b h) ∙ append-nil s
+
+-- bytes laid over a longer buffer, read back
+pub laid-read : (b s : Bytes) (n : ℕ) → n ≡ length s → take n (laidOver b s) ≡ s
+laid-read b s n e = ap (λ (k : ℕ). take k (laidOver b s)) e ∙ take-append-seam s (drop (length s) b)
+
+-- the cases of `withSize`
+module _ (a : Args) (n : ℕ) where
+  pub size-large : 4096 < n → bad a ≡ withSize a (Is n)
+  size-large h = rw (lt-leb n 4096 h)
+
+  pub size-fits : n ≤ 4096 → setSecond a n ≡ withSize a (Is n)
+  size-fits h = rw (le-leb n 4096 h)
+
+-- ---- two words, and all of them, from what each call says
+
+pub took-two : (a b r : Args) (one two : Sort) (line rest w x t u v : Bytes) → w ≡ firstWord line → b ≡ taken a one w → u ≡ takenText t one w → rest ≡ afterWord line → x ≡ firstWord rest → r ≡ taken b two x → v ≡ takenText u two x
+    → (r ≡ nextTwo (reading a t line) one two .args) × (v ≡ nextTwo (reading a t line) one two .bytes)
+took-two a b r one two line rest w x t u v e f g h i j k = (cc, cc)
+
+-- the first two words, where nothing has been taken before
+from-none : (z : Args) (b : Bytes) (line : Bytes) (one two : Sort) → z ≡ noArgs → nextTwo (reading z (take (z .len) b) line) one two ≡ nextTwo (reading noArgs [] line) one two
+from-none z b line one two e = ap (λ (x : Args). nextTwo (reading x (take (x .len) b) line) one two) e
+
+pub took-all : (z a b r : Args) (s : Shape) (buffer line rest more w t u : Bytes) → z ≡ noArgs → a ≡ nextTwo (reading z (take (z .len) buffer) line) (s .one) (s .two) .args → t ≡ nextTwo (reading z (take (z .len) buffer) line) (s .one) (s .two) .bytes
+    → rest ≡ afterWord (afterWord line) → b ≡ nextTwo (reading a t rest) (s .three) (s .four) .args → u ≡ nextTwo (reading a t rest) (s .three) (s .four) .bytes → more ≡ afterWord (afterWord rest) → w ≡ firstWord more
+    → r ≡ taken b Nothing w → (r ≡ readWords s line .args) × (u ≡ readWords s line .bytes)
+unfolding readWords
+took-all z a b r s buffer line rest more w t u q e f g h i j k l =
+    let m = from-none z buffer line (s .one) (s .two) q in
+    let x = e ∙ ap (λ (p : Reading). p .args) m in
+    let y = f ∙ ap (λ (p : Reading). p .bytes) m in
+    let v : u ≡ nextTwo (nextTwo (reading noArgs [] line) (s .one) (s .two)) (s .three) (s .four) .bytes = cc in
+    (cc, v ∙ same-bytes b _ _ Nothing refl)

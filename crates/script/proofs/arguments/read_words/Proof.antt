@@ -1,0 +1,61 @@
+-- `read_words`: two words, two words, and none. Assumes nothing.
+use Prim.Native.Nat.{ℕ}
+use lib.ListN.{take}
+use Rattle.script.specs.declared.Args.{Args}
+use Rattle.script.proofs.Taking.{kept, took-all}
+use Rattle.script.specs.declared.Sort.the-variants.{Nothing}
+use native.Mathlib.Omega.{arith}
+use mathlib.Core.Path.{_≡_, refl, sym, _∙_, ap}
+use denote.Ref.{now}
+use lib.ListN.{length}
+use Rattle.script.specs.Words.{afterWord}
+use Rattle.script.proofs.Lines.{afterWord-length}
+use borrow.Author.Needs.{needs}
+use Rattle.script.proofs.arguments.read_words.Statement.{statement}
+use Rattle.script.proofs.arguments.read_words.Tie as tie
+
+no-args-requires : tie.Need-no-args-requires
+no-args-requires c κs = search needs
+
+take-two-requires : tie.Need-take-two-requires
+take-two-requires c κs = search needs
+
+after-two-requires : tie.Need-after-two-requires
+after-two-requires c κs = search needs
+
+take-two-requires-2 : tie.Need-take-two-requires-2
+take-two-requires-2 c κs = let l = now (c .before .before .before .before .before .before .before .before .before .args .line) in omega (arith, c .before .before .before .before .before .before .before .before .before .pre, ap length (c .before .after-two .ensures), afterWord-length (afterWord l), afterWord-length l)
+
+after-two-requires-2 : tie.Need-after-two-requires-2
+after-two-requires-2 c κs = search needs
+
+first-word-requires : tie.Need-first-word-requires
+first-word-requires c κs = search needs
+
+take-nothing-requires : tie.Need-take-nothing-requires
+take-nothing-requires c κs = search needs
+
+same-length : tie.Need-same-length
+same-length c = search needs
+
+returns : tie.Need-returns
+returns c =
+    let a = c .before .before .before .before .before .before .before .before .before .before .take-two .ensures in
+    let d = c .before .before .before .before .before .take-two2 .ensures in
+    let r = took-all _ _ _ _ (c .before .before .before .before .before .before .before .before .before .before .before .before .before .before .before .args .shape) _ _ _ _ _ _ _ (c .before .before .before .before .before .before .before .before .before .before .before .before .no-args .ensures) (a .0) (a .1) (c .before .before .before .before .before .before .before .after-two .ensures) (d .0) (d .1) (c .before .before .after-two2 .ensures) (c .before .first-word .ensures) (c .take-nothing .ensures) in
+    let z = c .before .before .before .before .before .take-two2 .last .1 .1 .1 .1 .0 in
+    (r .0, ap (λ (x : Args). take (x .len) z) (c .take-nothing .ensures) ∙ ap (λ (n : ℕ). take n z) (kept _ _ Nothing refl) ∙ r .1)
+
+pub read-words-spec : {M : Type 1} → statement M
+read-words-spec =
+    tie.close
+    (tie.spec
+    no-args-requires
+    take-two-requires
+    after-two-requires
+    take-two-requires-2
+    after-two-requires-2
+    first-word-requires
+    take-nothing-requires
+    same-length
+    returns)

@@ -1,0 +1,29 @@
+-- `take_descriptor`: eight bytes. Assumes nothing.
+use mathlib.Core.Path.{_≡_, refl, sym, _∙_, ap}
+use denote.Ref.{now}
+use borrow.Author.Tests.{not-true, not-false, eq-eqb, ne-eqb}
+use Rattle.script.specs.Commands.{withDescriptor}
+use Rattle.script.proofs.Taking.{descriptor-is, descriptor-not, isBytes-count}
+use borrow.Author.Needs.{needs}
+use Rattle.script.proofs.arguments.take_descriptor.Statement.{statement}
+use Rattle.script.proofs.arguments.take_descriptor.Tie as tie
+
+is-bytes-requires : tie.Need-is-bytes-requires
+is-bytes-requires c κs = search needs
+
+not-good-requires : tie.Need-not-good-requires
+not-good-requires c κs = search needs
+
+returns : tie.Need-returns
+returns c = c .not-good .ensures ∙ descriptor-not _ _ (sym (c .before .before .is-bytes .ensures) ∙ not-true _ (c .before .if1 .taken))
+
+descriptor-in-requires : tie.Need-descriptor-in-requires
+descriptor-in-requires c κs = isBytes-count 8 _ (sym (c .before .is-bytes .ensures) ∙ not-false _ (c .if1 .left))
+
+returns-2 : tie.Need-returns-2
+returns-2 c = ap (withDescriptor (c .before .before .before .before .args .a)) (c .descriptor-in .ensures) ∙ descriptor-is _ _ (sym (c .before .before .is-bytes .ensures) ∙ not-false _ (c .before .if1 .left))
+
+pub take-descriptor-spec : {M : Type 1} → statement M
+take-descriptor-spec =
+    tie.close
+    (tie.spec is-bytes-requires not-good-requires returns descriptor-in-requires returns-2)

@@ -1,0 +1,28 @@
+-- `take_first`: the number that was read. Assumes nothing.
+use mathlib.Core.Path.{_≡_, refl, sym, _∙_, ap}
+use Rattle.script.proofs.Taking.{first-is}
+use borrow.Author.Needs.{needs}
+use Rattle.script.proofs.arguments.take_first.Statement.{statement}
+use Rattle.script.proofs.arguments.take_first.Tie as tie
+
+number-requires : tie.Need-number-requires
+number-requires c κs = search needs
+
+enum-known-n : tie.Need-enum-known-n
+enum-known-n c = search needs
+
+enum-told : tie.Need-enum-told
+enum-told c = search needs
+
+not-good-requires : tie.Need-not-good-requires
+not-good-requires c κs = search needs
+
+returns : tie.Need-returns
+returns c = first-is _ _ _ (sym (c .before .n .given .1) ∙ c .before .before .before .number .ensures)
+
+returns-2 : tie.Need-returns-2
+returns-2 c = c .not-good .ensures ∙ first-is _ _ _ (sym (c .before .enum-told .given .1) ∙ c .before .before .before .number .ensures)
+
+pub take-first-spec : {M : Type 1} → statement M
+take-first-spec =
+    tie.close (tie.spec number-requires enum-known-n enum-told not-good-requires returns returns-2)

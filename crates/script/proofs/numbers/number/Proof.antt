@@ -1,0 +1,91 @@
+-- `number`: what is left of the word goes on to spell what the whole word spells. Assumes nothing.
+use Prim.Native.Nat.{ℕ, _+_, _*_}
+use Rattle.script.proofs.Picks.{within-low}
+use Prim.Native.Nat.{_≤_, _-_}
+use native.Mathlib.Omega.{arith}
+use mathlib.Core.Bool.{true}
+use mathlib.Core.Path.{_≡_, refl, sym, _∙_, ap}
+use lib.ListN.{length, drop}
+use borrow.Author.Tests.{not-true, not-false}
+use Rattle.script.specs.Numbers.{isDigit, numberOf, digitsFrom}
+use Rattle.script.proofs.Digits.{no-digits, digits-start, digits-bad, digits-large, digits-next, digits-end}
+use denote.Ref.{now}
+use borrow.Author.Needs.{needs}
+use Rattle.script.proofs.numbers.number.Statement.{statement}
+use Rattle.script.proofs.numbers.number.Tie as tie
+
+abbrev Inv-loop : tie.InvT-loop
+Inv-loop s n₀ i₀ n i = (i ≤ length s) × (numberOf s ≡ digitsFrom n (drop i s))
+
+abbrev μ-loop : tie.MeasureT-loop
+μ-loop s n₀ i₀ n i = length s - i
+
+returns : tie.Need-returns Inv-loop μ-loop
+returns c = no-digits _ (c .if1 .taken)
+
+loop-holds : tie.Need-loop-holds Inv-loop μ-loop
+loop-holds c = (search needs, digits-start _ (c .if1 .left))
+
+shared-slice-read-b : tie.Need-shared-slice-read-b Inv-loop μ-loop
+shared-slice-read-b c = search needs
+
+is-digit-requires : tie.Need-is-digit-requires Inv-loop μ-loop
+is-digit-requires c κs = search needs
+
+returns-2 : tie.Need-returns-2 Inv-loop μ-loop
+returns-2 c = let l = c .before .before .before .before .loop in sym (l .inv .1 ∙ digits-bad _ (l .i) (l .n) (omega arith) (sym (c .before .is-digit .ensures) ∙ not-true _ (c .if2 .taken)))
+
+wide-requires : tie.Need-wide-requires Inv-loop μ-loop
+wide-requires c κs = search needs
+
+sub-d : tie.Need-sub-d Inv-loop μ-loop
+sub-d c = omega (arith, low _ _ (c .wide .ensures) (sym (c .before .before .is-digit .ensures) ∙ not-false _ (c .before .if2 .left)))
+  where
+    low : (r b : ℕ) → r ≡ b → isDigit b ≡ true → 48 ≤ r
+    low r b e h = omega (arith, within-low 48 57 b h)
+
+sub-if3 : tie.Need-sub-if3 Inv-loop μ-loop
+sub-if3 c = search needs
+
+returns-3 : tie.Need-returns-3 Inv-loop μ-loop
+returns-3 c = let l = c .before .before .before .before .before .before .loop in sym (l .inv .1 ∙ digits-large _ (l .i) (l .n) (omega arith) (omega (arith, c .before .wide .ensures)))
+
+mul-n : tie.Need-mul-n Inv-loop μ-loop
+mul-n c = search needs
+
+add-n : tie.Need-add-n Inv-loop μ-loop
+add-n c = search needs
+
+add-i : tie.Need-add-i Inv-loop μ-loop
+add-i c = search needs
+
+loop-less : tie.Need-loop-less Inv-loop μ-loop
+loop-less c = search needs
+
+loop-again : tie.Need-loop-again Inv-loop μ-loop
+loop-again c = let l = c .before .before .before .before .before .before .loop in (omega arith, l .inv .1 ∙ digits-next _ (l .i) (l .n) (omega arith) (sym (c .before .before .before .is-digit .ensures) ∙ not-false _ (c .before .before .if2 .left)) (omega (arith, c .before .wide .ensures)) ∙ ap (λ (k : ℕ). digitsFrom (l .n * 10 + (k - 48)) (drop (l .i + 1) (c .before .before .before .before .before .before .before .before .before .args .s .now))) (sym (c .before .wide .ensures)))
+
+returns-4 : tie.Need-returns-4 Inv-loop μ-loop
+returns-4 c = let l = c .before .loop in sym (l .inv .1 ∙ digits-end (now (c .before .before .before .before .args .s)) (l .i) (l .n) (omega arith))
+
+pub number-spec : {M : Type 1} → statement M
+number-spec =
+    tie.close
+    (tie.spec
+    Inv-loop
+    μ-loop
+    returns
+    loop-holds
+    shared-slice-read-b
+    is-digit-requires
+    returns-2
+    wide-requires
+    sub-d
+    sub-if3
+    returns-3
+    mul-n
+    add-n
+    add-i
+    loop-less
+    loop-again
+    returns-4)

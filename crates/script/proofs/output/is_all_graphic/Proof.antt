@@ -1,0 +1,62 @@
+-- `is_all_graphic`: every byte before `i` passes the test. Assumes nothing.
+use denote.Ref.{now}
+use Prim.Native.Nat.{_≤_, _-_}
+use native.Mathlib.Omega.{arith}
+use lib.ListN.{length}
+use mathlib.Core.Path.{sym, _∙_}
+use Rattle.lists.proofs.Loops.{Scanned, miss, scanned-none}
+use mathlib.Core.Path.{ap}
+use mathlib.Core.Bool.{not}
+use Rattle.script.proofs.Picks.{all-stop, all-pass}
+use Prim.Native.Nat.{ℕ}
+use Rattle.script.specs.Strings.{isGraphic, isAllGraphic}
+use borrow.Author.Needs.{needs}
+use Rattle.script.proofs.output.is_all_graphic.Statement.{statement}
+use Rattle.script.proofs.output.is_all_graphic.Tie as tie
+
+abbrev Inv-loop : tie.InvT-loop
+Inv-loop s i₀ i = (i ≤ length s) × Scanned (λ (b : ℕ). not (isGraphic b)) s i
+
+abbrev μ-loop : tie.MeasureT-loop
+μ-loop s i₀ i = length s - i
+
+loop-holds : tie.Need-loop-holds Inv-loop μ-loop
+loop-holds c = (search needs, scanned-none _ _)
+
+shared-slice-read-is-graphic : tie.Need-shared-slice-read-is-graphic Inv-loop μ-loop
+shared-slice-read-is-graphic c = search needs
+
+is-graphic-requires : tie.Need-is-graphic-requires Inv-loop μ-loop
+is-graphic-requires c κs = search needs
+
+returns : tie.Need-returns Inv-loop μ-loop
+unfolding isAllGraphic
+returns c = let l = c .before .before .before .before .loop in all-stop _ _ 0 (l .i) (omega arith) (l .inv .1) (ap not (sym (c .before .is-graphic .ensures)) ∙ c .if1 .taken)
+
+add-i : tie.Need-add-i Inv-loop μ-loop
+add-i c = search needs
+
+loop-less : tie.Need-loop-less Inv-loop μ-loop
+loop-less c = search needs
+
+loop-again : tie.Need-loop-again Inv-loop μ-loop
+loop-again c = let l = c .before .before .before .before .loop in (omega arith, miss _ _ 0 (l .i) (omega arith) (l .inv .1) (ap not (sym (c .before .is-graphic .ensures)) ∙ c .if1 .left))
+
+returns-2 : tie.Need-returns-2 Inv-loop μ-loop
+unfolding isAllGraphic
+returns-2 c = all-pass _ _ 0 _ (omega arith) (c .before .loop .inv .1)
+
+pub is-all-graphic-spec : {M : Type 1} → statement M
+is-all-graphic-spec =
+    tie.close
+    (tie.spec
+    Inv-loop
+    μ-loop
+    loop-holds
+    shared-slice-read-is-graphic
+    is-graphic-requires
+    returns
+    add-i
+    loop-less
+    loop-again
+    returns-2)

@@ -1,0 +1,68 @@
+-- `put`: the first `i` bytes are stored. Assumes nothing.
+use Prim.Native.Nat.{ℕ}
+use mathlib.Core.List.{List}
+use lib.ListN.{set, getD}
+use lib.ListN.{length-set}
+use denote.Ref.{now}
+use Prim.Native.Nat.{_+_, _≤_, _-_}
+use native.Mathlib.Omega.{arith}
+use mathlib.Core.Path.{_≡_, refl, sym, _∙_, ap}
+use lib.ListN.{length, take}
+use lib.Seq.{sets, length-sets, take-all}
+use Rattle.script.proofs.Places.{sets-next}
+use borrow.Author.Needs.{needs}
+use Rattle.script.proofs.output.put.Statement.{statement}
+use Rattle.script.proofs.output.put.Tie as tie
+
+abbrev Inv-loop : tie.InvT-loop
+Inv-loop out₀ at s i₀ out i = (i ≤ length s) × (out ≡ sets out₀ at (take i s)) × (length out ≡ length out₀) × (at + length s ≤ length out₀)
+
+abbrev μ-loop : tie.MeasureT-loop
+μ-loop out₀ at s i₀ out i = length s - i
+
+loop-holds : tie.Need-loop-holds Inv-loop μ-loop
+loop-holds c = (search needs, refl, refl, c .pre)
+
+shared-slice-read-out : tie.Need-shared-slice-read-out Inv-loop μ-loop
+shared-slice-read-out c = search needs
+
+add-out : tie.Need-add-out Inv-loop μ-loop
+add-out c = search needs
+
+slice-write-out : tie.Need-slice-write-out Inv-loop μ-loop
+slice-write-out c = search needs
+
+add-i : tie.Need-add-i Inv-loop μ-loop
+add-i c = search needs
+
+loop-less : tie.Need-loop-less Inv-loop μ-loop
+loop-less c = search needs
+
+loop-again : tie.Need-loop-again Inv-loop μ-loop
+loop-again c = let l = c .before .before .loop in let s = c .before .before .before .args in (omega arith, ap (λ (x : List ℕ). set x (s .at + l .i) (getD (now (s .s)) (l .i) 0)) (l .inv .1) ∙ sets-next _ _ (now (s .s)) (l .i) (omega arith), simp length-set (l .inv .2), l .inv .3)
+
+add-result : tie.Need-add-result Inv-loop μ-loop
+add-result c = search needs
+
+same-length : tie.Need-same-length Inv-loop μ-loop
+same-length c = search needs
+
+returns : tie.Need-returns Inv-loop μ-loop
+returns c = let l = c .before .loop in let s = c .before .before .args in let e : l .i ≡ length (now (s .s)) = omega arith in let h : length (now (s .s)) ≤ l .i = omega arith in (ap (λ (k : ℕ). s .at + k) e, l .inv .1 ∙ ap (sets (now (s .out)) (s .at)) (take-all _ _ h))
+
+pub put-spec : {M : Type 1} → statement M
+put-spec =
+    tie.close
+    (tie.spec
+    Inv-loop
+    μ-loop
+    loop-holds
+    shared-slice-read-out
+    add-out
+    slice-write-out
+    add-i
+    loop-less
+    loop-again
+    add-result
+    same-length
+    returns)

@@ -1,0 +1,76 @@
+-- `lay_hex`: the bytes of the first `i` pairs of digits are laid. Assumes nothing.
+use Prim.Native.Nat.{_≤_, _-_, _/_}
+use native.Mathlib.Omega.{arith}
+use mathlib.Core.Path.{_≡_, refl, sym, _∙_, ap}
+use lib.ListN.{length, set, length-set}
+use Rattle.lists.proofs.Loops.{laid, laid-more, laid-all}
+use Rattle.script.specs.Strings.{fromHex}
+use Rattle.script.proofs.Hex.{fromHex-length, fromHex-at}
+use borrow.Author.Needs.{needs}
+use Rattle.script.proofs.strings.lay_hex.Statement.{statement}
+use Rattle.script.proofs.strings.lay_hex.Tie as tie
+
+abbrev Inv-loop : tie.InvT-loop
+Inv-loop s out₀ n i₀ out i = (i ≤ n) × (n ≡ length s / 2) × (out ≡ laid out₀ (fromHex s) i) × (length out ≡ length out₀) × (length (fromHex s) ≤ length out₀) × (length (fromHex s) ≡ length s / 2)
+
+abbrev μ-loop : tie.MeasureT-loop
+μ-loop s out₀ n i₀ out i = n - i
+
+loop-holds : tie.Need-loop-holds Inv-loop μ-loop
+loop-holds c = (omega arith, refl, refl, refl, c .before .before .pre, fromHex-length _)
+
+mul-hex-byte : tie.Need-mul-hex-byte Inv-loop μ-loop
+mul-hex-byte c = search needs
+
+shared-slice-read-hex-byte : tie.Need-shared-slice-read-hex-byte Inv-loop μ-loop
+shared-slice-read-hex-byte c = search needs
+
+mul-hex-byte-2 : tie.Need-mul-hex-byte-2 Inv-loop μ-loop
+mul-hex-byte-2 c = search needs
+
+add-hex-byte : tie.Need-add-hex-byte Inv-loop μ-loop
+add-hex-byte c = search needs
+
+shared-slice-read-hex-byte-2 : tie.Need-shared-slice-read-hex-byte-2 Inv-loop μ-loop
+shared-slice-read-hex-byte-2 c = search needs
+
+hex-byte-requires : tie.Need-hex-byte-requires Inv-loop μ-loop
+hex-byte-requires c κs = search needs
+
+slice-write-out : tie.Need-slice-write-out Inv-loop μ-loop
+slice-write-out c = search needs
+
+add-i : tie.Need-add-i Inv-loop μ-loop
+add-i c = search needs
+
+loop-less : tie.Need-loop-less Inv-loop μ-loop
+loop-less c = search needs
+
+loop-again : tie.Need-loop-again Inv-loop μ-loop
+loop-again c = let l = c .before .before .before .before .loop in (omega arith, refl, ap (set (l .out) (l .i)) (c .hex-byte .ensures ∙ sym (fromHex-at _ (l .i) (omega arith))) ∙ laid-more _ _ _ (l .i) 0 (l .inv .2) (omega arith) (omega arith), simp length-set (l .inv .3), l .inv .4, l .inv .5)
+
+same-length : tie.Need-same-length Inv-loop μ-loop
+same-length c = search needs
+
+returns : tie.Need-returns Inv-loop μ-loop
+returns c = let l = c .before .loop in laid-all _ _ _ (l .i) (l .inv .2) (omega arith)
+
+pub lay-hex-spec : {M : Type 1} → statement M
+lay-hex-spec =
+    tie.close
+    (tie.spec
+    Inv-loop
+    μ-loop
+    loop-holds
+    mul-hex-byte
+    shared-slice-read-hex-byte
+    mul-hex-byte-2
+    add-hex-byte
+    shared-slice-read-hex-byte-2
+    hex-byte-requires
+    slice-write-out
+    add-i
+    loop-less
+    loop-again
+    same-length
+    returns)

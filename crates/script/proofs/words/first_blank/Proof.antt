@@ -1,0 +1,55 @@
+-- `first_blank`: no byte before `i` passes the test. Assumes nothing.
+use Prim.Native.Nat.{_≤_, _-_}
+use native.Mathlib.Omega.{arith}
+use lib.ListN.{length}
+use mathlib.Core.Path.{sym, _∙_}
+use Rattle.lists.proofs.Loops.{Scanned, hit, miss, scanned-none, scanned-all}
+use Rattle.script.specs.Words.{isBlank}
+use borrow.Author.Needs.{needs}
+use Rattle.script.proofs.words.first_blank.Statement.{statement}
+use Rattle.script.proofs.words.first_blank.Tie as tie
+
+abbrev Inv-loop : tie.InvT-loop
+Inv-loop s i₀ i = (i ≤ length s) × Scanned isBlank s i
+
+abbrev μ-loop : tie.MeasureT-loop
+μ-loop s i₀ i = length s - i
+
+loop-holds : tie.Need-loop-holds Inv-loop μ-loop
+loop-holds c = (search needs, scanned-none _ _)
+
+shared-slice-read-is-blank : tie.Need-shared-slice-read-is-blank Inv-loop μ-loop
+shared-slice-read-is-blank c = search needs
+
+is-blank-requires : tie.Need-is-blank-requires Inv-loop μ-loop
+is-blank-requires c κs = search needs
+
+returns : tie.Need-returns Inv-loop μ-loop
+returns c = let l = c .before .before .before .before .loop in hit _ _ 0 (l .i) (omega arith) (l .inv .1) (sym (c .before .is-blank .ensures) ∙ c .if1 .taken)
+
+add-i : tie.Need-add-i Inv-loop μ-loop
+add-i c = search needs
+
+loop-less : tie.Need-loop-less Inv-loop μ-loop
+loop-less c = search needs
+
+loop-again : tie.Need-loop-again Inv-loop μ-loop
+loop-again c = let l = c .before .before .before .before .loop in (omega arith, miss _ _ 0 (l .i) (omega arith) (l .inv .1) (sym (c .before .is-blank .ensures) ∙ c .if1 .left))
+
+returns-2 : tie.Need-returns-2 Inv-loop μ-loop
+returns-2 c = scanned-all _ _ _ (omega arith) (c .before .loop .inv .1)
+
+pub first-blank-spec : {M : Type 1} → statement M
+first-blank-spec =
+    tie.close
+    (tie.spec
+    Inv-loop
+    μ-loop
+    loop-holds
+    shared-slice-read-is-blank
+    is-blank-requires
+    returns
+    add-i
+    loop-less
+    loop-again
+    returns-2)

@@ -1,0 +1,14 @@
+-- `is_blank`: the two tests of the definition, one after the other. Assumes nothing.
+use Rattle.lists.proofs.Predicates.{predicates}
+use borrow.Author.Needs.{needs}
+use Rattle.script.proofs.words.is_blank.Statement.{statement}
+use Rattle.script.proofs.words.is_blank.Tie as tie
+
+returns : tie.Need-returns
+returns c = search predicates depth 12
+
+returns-2 : tie.Need-returns-2
+returns-2 c = search predicates depth 12
+
+pub is-blank-spec : {M : Type 1} → statement M
+is-blank-spec = tie.close (tie.spec returns returns-2)
