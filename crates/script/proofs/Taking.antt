@@ -1,11 +1,10 @@
 -- What a word that is taken comes to, case by case; and a word that is not the byte string of any length leaves the bytes beside the arguments.
 -- Assumes nothing.
-use Prim.Native.Nat.{ℕ, _<_, _≤_}
-use borrow.Author.Tests.{le-leb, lt-leb}
+use Prim.Native.Nat.{ℕ, _≤_}
 use mathlib.Core.Path.{_≡_, refl, sym, _∙_, ap}
 use mathlib.Core.Bool.{Bool, true, false, cond, true≢false}
 use lib.ListN.{length, take, drop, drop-of-length-le}
-use lib.Dec.{eqb, leb}
+use lib.Dec.{eqb}
 use native.Mathlib.Omega.{arith}
 use mathlib.Core.List.{List, [], _++_, append-nil}
 use lib.Seq.{take-append-seam}
@@ -15,7 +14,9 @@ use Rattle.script.specs.Text.{text}
 use Rattle.script.specs.Words.{firstWord, afterWord}
 use Rattle.script.specs.Numbers.{numberOf}
 use Rattle.script.specs.Strings.{isByteString, bytesOf}
-use Rattle.script.specs.Commands.{bad, withFirst, withSecond, setSecond, withLen, withSize, withDescriptor, withNonce, isBytes, isEmpty, noArgs, taken, takenText, Reading, reading, nextTwo, readWords}
+use Rattle.script.specs.Commands.{bad, withFirst, withSecond, setSecond, withLen, withDescriptor, withNonce, isBytes, isEmpty, noArgs, taken, takenText, Reading, reading, next, nextTwo, readWords}
+use Rattle.script.proofs.Hex.{bytesOf-length}
+use Rattle.script.proofs.Lines.{firstWord-length, afterWord-length}
 use Rattle.script.specs.declared.Number.{Number}
 use Rattle.script.specs.declared.Number.the-variants.{Is, Not}
 use Rattle.script.specs.declared.Sort.{Sort}
@@ -45,10 +46,6 @@ module _ (a : Args) where
   either true b c h k = h
   either false b c h k = k
 
-  size : (n : Number) → (withSize a n) .len ≡ a .len
-  size (Is n) = either (leb n 4096) (setSecond a n) (bad a) refl refl
-  size Not = refl
-
   pub kept : (w : Bytes) (s : Sort) → isText s ≡ false → (taken a s w) .len ≡ a .len
   unfolding taken
   kept w First h = first (numberOf w)
@@ -58,7 +55,7 @@ module _ (a : Args) where
   kept w Nonce h =
       either (same w (text "-")) (withNonce a (zeros 16)) (cond (isBytes 16 w) (withNonce a (bytesOf w)) (bad a)) refl
       (either (isBytes 16 w) (withNonce a (bytesOf w)) (bad a) refl refl)
-  kept w Size h = either (isEmpty w) (setSecond a 255) (withSize a (numberOf w)) refl (size (numberOf w))
+  kept w Size h = either (isEmpty w) (setSecond a 255) (withSecond a (numberOf w)) refl (second (numberOf w))
   kept w Nothing h = either (isEmpty w) a (bad a) refl refl
 
   same-bytes : (w t : Bytes) (s : Sort) → isText s ≡ false → t ≡ takenText t s w
@@ -132,9 +129,9 @@ module _ (a : Args) (w : Bytes) where
   unfolding taken
   size-none e = rw e
 
-  pub size-is : isEmpty w ≡ false → (n : Number) → n ≡ numberOf w → withSize a n ≡ taken a Size w
+  pub size-is : isEmpty w ≡ false → taken a Second w ≡ taken a Size w
   unfolding taken
-  size-is e n h = rw e (ap (withSize a) h)
+  size-is e = rw e
 
   pub nothing-is : isEmpty w ≡ true → a ≡ taken a Nothing w
   unfolding taken
@@ -156,14 +153,6 @@ laid-whole b s e = let h : length b ≤ length s = omega arith in ap (λ (r : By
 pub laid-read : (b s : Bytes) (n : ℕ) → n ≡ length s → take n (laidOver b s) ≡ s
 laid-read b s n e = ap (λ (k : ℕ). take k (laidOver b s)) e ∙ take-append-seam s (drop (length s) b)
 
--- the cases of `withSize`
-module _ (a : Args) (n : ℕ) where
-  pub size-large : 4096 < n → bad a ≡ withSize a (Is n)
-  size-large h = rw (lt-leb n 4096 h)
-
-  pub size-fits : n ≤ 4096 → setSecond a n ≡ withSize a (Is n)
-  size-fits h = rw (le-leb n 4096 h)
-
 -- ---- two words, and all of them, from what each call says
 
 pub took-two : (a b r : Args) (one two : Sort) (line rest w x t u v : Bytes) → w ≡ firstWord line → b ≡ taken a one w → u ≡ takenText t one w → rest ≡ afterWord line → x ≡ firstWord rest → r ≡ taken b two x → v ≡ takenText u two x
@@ -184,3 +173,38 @@ took-all z a b r s buffer line rest more w t u q e f g h i j k l =
     let y = f ∙ ap (λ (p : Reading). p .bytes) m in
     let v : u ≡ nextTwo (nextTwo (reading noArgs [] line) (s .one) (s .two)) (s .three) (s .four) .bytes = cc in
     (cc, v ∙ same-bytes b _ _ Nothing refl)
+
+-- ---- the bytes are no more than the line has
+
+taken-len : (k : ℕ) (a : Args) (s : Sort) (w : Bytes) → a .len ≤ k → length w ≤ k → (taken a s w) .len ≤ k
+taken-len k a First w h l = omega (arith, kept a w First refl)
+taken-len k a Second w h l = omega (arith, kept a w Second refl)
+taken-len k a Text w h l = text-len (isByteString w) refl
+  where
+    text-len : (t : Bool) → isByteString w ≡ t → (taken a Text w) .len ≤ k
+    text-len true e = omega (arith, ap (λ (x : Args). x .len) (text-is a w e), bytesOf-length w)
+    text-len false e = omega (arith, ap (λ (x : Args). x .len) (text-not a w e))
+taken-len k a Descriptor w h l = omega (arith, kept a w Descriptor refl)
+taken-len k a Nonce w h l = omega (arith, kept a w Nonce refl)
+taken-len k a Size w h l = omega (arith, kept a w Size refl)
+taken-len k a Nothing w h l = omega (arith, kept a w Nothing refl)
+
+-- how far a reading has come keeps both bounds
+Within : ℕ → Reading → Type 0
+Within k p = (p .args .len ≤ k) × (length (p .line) ≤ k)
+
+next-within : (k : ℕ) (p : Reading) (s : Sort) → Within k p → Within k (next p s)
+unfolding Within
+next-within k p s h = (taken-len k (p .args) s (firstWord (p .line)) (h .0) (omega (arith, h .1, firstWord-length (p .line))), omega (arith, h .1, afterWord-length (p .line)))
+
+pub readWords-len : (s : Shape) (line : Bytes) → (readWords s line) .args .len ≤ length line
+unfolding readWords Within
+readWords-len s line =
+    let k = length line in
+    let p = reading noArgs [] line in
+    let one = next-within k p (s .one) (omega arith, omega arith) in
+    let two = next-within k (next p (s .one)) (s .two) one in
+    let q = nextTwo p (s .one) (s .two) in
+    let three = next-within k q (s .three) two in
+    let four = next-within k (next q (s .three)) (s .four) three in
+    next-within k (nextTwo q (s .three) (s .four)) Nothing four .0

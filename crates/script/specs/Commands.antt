@@ -3,7 +3,7 @@ use Prim.Native.Nat.{ℕ}
 use mathlib.Core.Bool.{Bool, true, false, cond, _&&_}
 use mathlib.Core.List.{List, [], _∷_}
 use lib.ListN.{length}
-use lib.Dec.{eqb, leb}
+use lib.Dec.{eqb}
 use Rattle.lists.specs.Bytes.{Bytes, same, zeros}
 use Rattle.script.specs.Text.{text}
 use Rattle.script.specs.Words.{firstWord, afterWord}
@@ -95,11 +95,6 @@ withDescriptor a d = record { good = a .good; first = a .first; second = a .seco
 abbrev pub withNonce : Args → Bytes → Args
 withNonce a x = record { good = a .good; first = a .first; second = a .second; descriptor = a .descriptor; nonce = x; len = a .len }
 
--- "SIZE is the size of the name buffer lent, 255 if left out, at most 4096 (more is malformed)"
-abbrev pub withSize : Args → Number → Args
-withSize a (Is n) = cond (leb n 4096) (setSecond a n) (bad a)
-withSize a Not = bad a
-
 -- a byte string of exactly so many bytes
 abbrev pub isBytes : ℕ → Bytes → Bool
 isBytes n w = isByteString w && eqb (length (bytesOf w)) n
@@ -107,14 +102,14 @@ isBytes n w = isByteString w && eqb (length (bytesOf w)) n
 abbrev pub isEmpty : Bytes → Bool
 isEmpty w = eqb (length w) 0
 
--- one word more: what it should be, and what it is
+-- one word more: what it should be, and what it is ("SIZE is the size of the name buffer lent, 255 if left out")
 unfoldable pub taken : Args → Sort → Bytes → Args
 taken a First w = withFirst a (numberOf w)
 taken a Second w = withSecond a (numberOf w)
 taken a Text w = cond (isByteString w) (withLen a (length (bytesOf w))) (bad a)
 taken a Descriptor w = cond (isBytes 8 w) (withDescriptor a (bytesOf w)) (bad a)
 taken a Nonce w = cond (same w (text "-")) (withNonce a (zeros 16)) (cond (isBytes 16 w) (withNonce a (bytesOf w)) (bad a))
-taken a Size w = cond (isEmpty w) (setSecond a 255) (withSize a (numberOf w))
+taken a Size w = cond (isEmpty w) (setSecond a 255) (withSecond a (numberOf w))
 taken a Nothing w = cond (isEmpty w) a (bad a)
 
 -- the bytes of KEY, POLICY, NAME or BLOCK, once that word has come

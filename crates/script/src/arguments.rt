@@ -12,7 +12,7 @@ ghost use lib.ListN.{length, take};
 ghost use Rattle.lists.specs.Bytes.{zeros};
 ghost use Rattle.script.specs.Words.{afterWord};
 ghost use Rattle.script.specs.Strings.{bytesOf};
-ghost use Rattle.script.specs.Commands.{noArgs, bad, withFirst, setSecond, withSecond, withLen, withDescriptor, withNonce, withSize, isBytes, taken, takenText, reading, nextTwo, readWords};
+ghost use Rattle.script.specs.Commands.{noArgs, bad, withFirst, setSecond, withSecond, withLen, withDescriptor, withNonce, isBytes, taken, takenText, reading, nextTwo, readWords};
 ghost use Rattle.script.specs.declared.Sort.the-variants.{First, Second, Text, Descriptor, Nonce, Size, Nothing};
 
 fn no_args() -> Args
@@ -140,25 +140,13 @@ fn take_nonce(a: Args, w: &[u8]) -> Args
     with_nonce(a, nonce_in(w))
 }
 
-fn with_size(a: Args, size: Number) -> Args
-    ensures { λ r. ⌜ r ≡ withSize a size ⌝ }
-{
-    let Number::Is(n) = size else {
-        return not_good(a);
-    };
-    if 4096 < n {
-        return not_good(a);
-    }
-    with_second(a, n)
-}
-
 fn take_size(a: Args, w: &[u8]) -> Args
     ensures { λ r. ⌜ r ≡ taken a Size (now (w .entry)) ⌝ }
 {
     if w.len() == 0 {
         return with_second(a, 255);
     }
-    with_size(a, numbers::number(w))
+    take_second(a, w)
 }
 
 fn take_nothing(a: Args, w: &[u8]) -> Args

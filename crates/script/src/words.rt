@@ -3,7 +3,7 @@ ghost use mathlib.Core.Path.{_≡_};
 ghost use Rattle.lists.specs.Bytes.{firstAt};
 ghost use Rattle.script.specs.Words.{isBlank, isInk, trimmed, firstWord, afterWord};
 
-fn is_blank(b: u8) -> bool
+pub fn is_blank(b: u8) -> bool
     ensures { λ r. ⌜ r ≡ isBlank b ⌝ }
 {
     if b == 32 {

@@ -12,15 +12,12 @@ with-second-requires c κs = search needs
 returns : tie.Need-returns
 returns c = c .with-second .ensures ∙ size-none _ _ (eq-eqb _ _ (c .before .if1 .taken))
 
-number-requires : tie.Need-number-requires
-number-requires c κs = search needs
-
-with-size-requires : tie.Need-with-size-requires
-with-size-requires c κs = search needs
+take-second-requires : tie.Need-take-second-requires
+take-second-requires c κs = search needs
 
 returns-2 : tie.Need-returns-2
-returns-2 c = c .with-size .ensures ∙ size-is _ _ (ne-eqb _ _ (c .before .before .if1 .left)) _ (c .before .number .ensures)
+returns-2 c = c .take-second .ensures ∙ size-is _ _ (ne-eqb _ _ (c .before .if1 .left))
 
 pub take-size-spec : {M : Type 1} → statement M
 take-size-spec =
-    tie.close (tie.spec with-second-requires returns number-requires with-size-requires returns-2)
+    tie.close (tie.spec with-second-requires returns take-second-requires returns-2)

@@ -1,0 +1,2 @@
+-- The laws of session.
+pub mod Saying

@@ -1,0 +1,54 @@
+-- `put_policy`: the bytes, or the refusal. Assumes nothing.
+use mathlib.Core.Path.{_≡_, refl, sym, _∙_, ap}
+use mathlib.Core.Bool.{false}
+use mathlib.Core.List.{[]}
+use Rattle.volume.specs.Request.{policyAnswered}
+use Rattle.volume.specs.declared.Reply.{Reply}
+use Rattle.session.specs.Answers.{answerText}
+use Rattle.session.proofs.Saying.{rewritten}
+use borrow.Author.Needs.{needs}
+use Rattle.session.proofs.answers.put_policy.Statement.{statement}
+use Rattle.session.proofs.answers.put_policy.Tie as tie
+
+enum-told : tie.Need-enum-told
+enum-told c = search needs
+
+slice-aggregate-put-bytes : tie.Need-slice-aggregate-put-bytes
+slice-aggregate-put-bytes c = search needs
+
+put-bytes-requires : tie.Need-put-bytes-requires
+put-bytes-requires c κs = search needs
+
+enum-known-a : tie.Need-enum-known-a
+enum-known-a c = search needs
+
+put-refusal-requires : tie.Need-put-refusal-requires
+put-refusal-requires c κs = search needs
+
+same-length : tie.Need-same-length
+same-length c = search needs
+
+returns : tie.Need-returns
+unfolding answerText
+returns c = rewritten _ _ _ _ _ (c .before .before .put-bytes .ensures) (ap (λ (x : Reply). answerText false (policyAnswered x (c .before .before .before .before .before .before .before .before .args .t3)) []) (sym (c .before .before .before .before .before .enum-told .given .1)))
+
+same-length-2 : tie.Need-same-length-2
+same-length-2 c = search needs
+
+returns-2 : tie.Need-returns-2
+unfolding answerText
+returns-2 c = rewritten _ _ _ _ _ (c .before .before .put-refusal .ensures) (ap (λ (x : Reply). answerText false (policyAnswered x (c .before .before .before .before .before .before .before .before .args .t3)) []) (sym (c .before .before .before .before .before .a .given .1)))
+
+pub put-policy-spec : {M : Type 1} → statement M
+put-policy-spec =
+    tie.close
+    (tie.spec
+    enum-told
+    slice-aggregate-put-bytes
+    put-bytes-requires
+    enum-known-a
+    put-refusal-requires
+    same-length
+    returns
+    same-length-2
+    returns-2)

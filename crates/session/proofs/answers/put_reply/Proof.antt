@@ -1,0 +1,58 @@
+-- `put_reply`: `ok`, or the refusal. Assumes nothing.
+use mathlib.Core.Path.{_≡_, refl, sym, _∙_, ap}
+use native.Mathlib.Omega.{arith}
+use denote.Ref.{now}
+use mathlib.Core.Bool.{false}
+use mathlib.Core.List.{[]}
+use Rattle.errno.specs.Refusals.{number}
+use Rattle.volume.specs.Request.{replied}
+use Rattle.volume.specs.declared.Reply.{Reply}
+use Rattle.script.specs.Text.{text}
+use Rattle.session.specs.Answers.{errorText, answerText}
+use Rattle.session.proofs.Saying.{begun, rewritten}
+use borrow.Author.Needs.{needs}
+use Rattle.session.proofs.answers.put_reply.Statement.{statement}
+use Rattle.session.proofs.answers.put_reply.Tie as tie
+
+enum-told : tie.Need-enum-told
+enum-told c = search needs
+
+slice-aggregate-put : tie.Need-slice-aggregate-put
+slice-aggregate-put c = search needs
+
+put-requires : tie.Need-put-requires
+put-requires c κs = search needs
+
+enum-known-a : tie.Need-enum-known-a
+enum-known-a c = search needs
+
+put-refusal-requires : tie.Need-put-refusal-requires
+put-refusal-requires c κs = search needs
+
+same-length : tie.Need-same-length
+same-length c = search needs
+
+returns : tie.Need-returns
+unfolding answerText
+returns c = rewritten _ _ _ (text "ok") _ (begun (now (c .before .before .before .before .before .before .before .before .args .out)) (c .before .before .put .last .0) _ (text "ok") (omega (arith, c .before .before .before .before .before .before .before .before .pre)) (c .before .before .put .ensures)) (ap (λ (x : Reply). answerText false (replied x) []) (sym (c .before .before .before .before .before .enum-told .given .1)))
+
+same-length-2 : tie.Need-same-length-2
+same-length-2 c = search needs
+
+returns-2 : tie.Need-returns-2
+unfolding answerText
+returns-2 c = rewritten _ _ _ _ _ (c .before .before .put-refusal .ensures) (ap (λ (x : Reply). answerText false (replied x) []) (sym (c .before .before .before .before .before .a .given .1)))
+
+pub put-reply-spec : {M : Type 1} → statement M
+put-reply-spec =
+    tie.close
+    (tie.spec
+    enum-told
+    slice-aggregate-put
+    put-requires
+    enum-known-a
+    put-refusal-requires
+    same-length
+    returns
+    same-length-2
+    returns-2)

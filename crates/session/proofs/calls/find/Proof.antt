@@ -1,0 +1,27 @@
+-- `find`: the request, and its answer. Assumes nothing.
+use mathlib.Core.Path.{_≡_, refl, sym, _∙_, ap}
+use denote.Ref.{now}
+use mathlib.Core.Bool.{true, false}
+use mathlib.Core.List.{[]}
+use Rattle.session.specs.Lines.{respond}
+use Rattle.volume.specs.Request.{entryAnswered}
+use Rattle.session.proofs.Saying.{says}
+use borrow.Author.Needs.{needs}
+use Rattle.session.proofs.calls.find.Statement.{statement}
+use Rattle.session.proofs.calls.find.Tie as tie
+
+find-requires : tie.Need-find-requires
+find-requires c κs = search needs
+
+put-entry-requires : tie.Need-put-entry-requires
+put-entry-requires c κs = search needs
+
+same-length : tie.Need-same-length
+same-length c = search needs
+
+returns : tie.Need-returns
+unfolding respond
+returns c = says (now (c .before .before .before .before .before .before .before .args .out)) _ _ _ _ false (entryAnswered (c .before .before .before .find .result)) [] _ (c .before .before .before .find .ensures) refl (c .before .before .put-entry .ensures)
+
+pub find-spec : {M : Type 1} → statement M
+find-spec = tie.close (tie.spec find-requires put-entry-requires same-length returns)

@@ -1,0 +1,49 @@
+-- `show_sized`: a part of a buffer of zeros is one. Assumes nothing.
+use native.Mathlib.Omega.{arith}
+use mathlib.Core.Path.{_≡_, refl, sym, _∙_, ap}
+use denote.Ref.{now}
+use mathlib.Core.Bool.{false}
+use lib.ListN.{length, take}
+use lib.Seq.{length-take-le}
+use Rattle.lists.specs.Bytes.{Bytes, zeros}
+use Rattle.fscrypt.specs.Cipher.{fscrypt}
+use Rattle.fscrypt.proofs.Padding.{length-zeros}
+use Rattle.volume.specs.Request.{show}
+use Rattle.volume.specs.Step.{step}
+use Rattle.session.specs.Answers.{told}
+use Rattle.session.specs.Lines.{entry}
+use Rattle.session.proofs.Saying.{same-said, take-zeros}
+use borrow.Author.Needs.{needs}
+use Rattle.session.proofs.calls.show_sized.Statement.{statement}
+use Rattle.session.proofs.calls.show_sized.Tie as tie
+
+name-buffer-requires : tie.Need-name-buffer-requires
+name-buffer-requires c κs = search needs
+
+array-borrow-prefix-buffer : tie.Need-array-borrow-prefix-buffer
+array-borrow-prefix-buffer c = search needs
+
+slice-aggregate-show-in : tie.Need-slice-aggregate-show-in
+slice-aggregate-show-in c = sym (length-take-le _ _ (omega (arith, ap length (c .before .name-buffer .ensures), length-zeros 4096, c .before .before .before .pre .1)))
+
+show-in-requires : tie.Need-show-in-requires
+show-in-requires c κs = search needs
+
+same-length : tie.Need-same-length
+same-length c = search needs
+
+returns : tie.Need-returns
+returns c =
+    let s = c .before .before .before .before .before .before .before .before .args in
+    same-said (now (s .out)) _ _ _ _ _ (c .before .before .before .show-in .ensures) (ap (λ (x : Bytes). told false (step fscrypt (s .v) (show (entry (s .number)) x))) (ap (take (s .size)) (c .before .before .before .before .before .before .name-buffer .ensures) ∙ take-zeros (s .size) 4096 (c .before .before .before .before .before .before .before .before .pre .1)))
+
+pub show-sized-spec : {M : Type 1} → statement M
+show-sized-spec =
+    tie.close
+    (tie.spec
+    name-buffer-requires
+    array-borrow-prefix-buffer
+    slice-aggregate-show-in
+    show-in-requires
+    same-length
+    returns)

@@ -1,0 +1,3 @@
+-- The definitions of session: what is answered to a line of a request script.
+pub mod Answers
+pub mod Lines

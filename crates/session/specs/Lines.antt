@@ -1,0 +1,84 @@
+-- What is answered to a line, the request script's "Lines and words". Quotations are the request script's. Assumes nothing.
+use Prim.Native.Nat.{ℕ, _-_, _≤_}
+use mathlib.Core.Path.{_≡_}
+use mathlib.Core.Bool.{Bool, true, false, cond, _||_}
+use mathlib.Core.List.{List, [], _∷_, _++_}
+use lib.ListN.{length, getD, take}
+use lib.Dec.{eqb, leb, ltb}
+use Rattle.lists.specs.Bytes.{Bytes, zeros}
+use Rattle.fscrypt.specs.Cipher.{fscrypt}
+use Rattle.volume.specs.Request.{Request, addKey, removeKey, setPolicy, getPolicy, create, link, rename, exchange, remove, find, show, seal, unseal}
+use Rattle.volume.specs.Step.{step}
+use Rattle.volume.specs.declared.Volume.{Volume}
+use Rattle.volume.specs.declared.InodeNumber.{InodeNumber}
+use Rattle.volume.specs.declared.EntryNumber.{EntryNumber}
+use Rattle.script.specs.Text.{text}
+use Rattle.script.specs.Words.{firstWord, afterWord}
+use Rattle.script.specs.Commands.{verbOf, shapeOf, Reading, readWords}
+use Rattle.script.specs.declared.Verb.{Verb}
+use Rattle.script.specs.declared.Verb.the-variants.{AddKey, RemoveKey, SetPolicy, GetPolicy, Create, Link, Rename, Exchange, Remove, Find, Show, Seal, Open, Unknown}
+use Rattle.script.specs.declared.Args.{Args}
+use Rattle.session.specs.Answers.{Said, saying, told, malformed, Written}
+use Rattle.session.specs.declared.Response.{Response}
+
+abbrev pub inode : ℕ → InodeNumber
+inode n = record { 0 = n }
+
+abbrev pub entry : ℕ → EntryNumber
+entry n = record { 0 = n }
+
+-- each request, made of its words: the first and second number, the descriptor, the nonce, and the bytes of KEY, POLICY, NAME or BLOCK;
+-- "SIZE is the size of the name buffer lent, .., at most 4096 (more is malformed)"
+unfoldable pub respond : Volume → Verb → Args → Bytes → Said
+respond v AddKey a t = told false (step fscrypt v (addKey (a .descriptor) t))
+respond v RemoveKey a t = told false (step fscrypt v (removeKey (a .descriptor)))
+respond v SetPolicy a t = told false (step fscrypt v (setPolicy (inode (a .first)) t (a .nonce)))
+respond v GetPolicy a t = told false (step fscrypt v (getPolicy (inode (a .first))))
+respond v Create a t = told false (step fscrypt v (create (inode (a .first)) (a .second) t (a .nonce)))
+respond v Link a t = told false (step fscrypt v (link (inode (a .first)) (inode (a .second)) t))
+respond v Rename a t = told false (step fscrypt v (rename (entry (a .first)) (inode (a .second)) t))
+respond v Exchange a t = told false (step fscrypt v (exchange (entry (a .first)) (entry (a .second))))
+respond v Remove a t = told false (step fscrypt v (remove (entry (a .first))))
+respond v Find a t = told false (step fscrypt v (find (inode (a .first)) t))
+respond v Show a t = cond (leb (a .second) 4096) (told false (step fscrypt v (show (entry (a .first)) (zeros (a .second))))) (malformed v)
+respond v Seal a t = told true (step fscrypt v (seal (inode (a .first)) (a .second) t))
+respond v Open a t = told true (step fscrypt v (unseal (inode (a .first)) (a .second) t))
+respond v Unknown a t = malformed v
+
+-- "one carriage return at the end is dropped"
+unfoldable pub withoutReturn : Bytes → Bytes
+withoutReturn l = cond (eqb (getD l (length l - 1) 0) 13) (take (length l - 1) l) l
+
+-- "A line with no word, and one whose first word begins with `#`, is skipped and has no answer."
+unfoldable pub isSkipped : Bytes → Bool
+isSkipped l = eqb (length (firstWord l)) 0 || eqb (getD (firstWord l) 0 0) 35
+
+-- "A line of more than 131,072 bytes (newline and carriage return not counted)"
+abbrev pub isOverlong : Bytes → Bool
+isOverlong l = ltb 131072 (length l)
+
+-- the request that the words make, where each is what it should be
+abbrev pub directed : Volume → Verb → Args → Bytes → Said
+directed v verb a t = cond (a .good) (respond v verb a t) (malformed v)
+
+-- a line that is not skipped
+unfoldable pub commanded : Volume → Bytes → Said
+commanded v l =
+    let verb = verbOf (firstWord l) in
+    let words = readWords (shapeOf verb) (afterWord l) in
+    cond (isOverlong l) (malformed v) (directed v verb (words .args) (words .bytes))
+
+-- an answer ends with a newline
+abbrev pub ended : Said → Said
+ended s = saying (s .said ++ text "\n") (s .volume)
+
+unfoldable pub answered : Volume → Bytes → Said
+answered v line = let l = withoutReturn line in cond (isSkipped l) (saying [] v) (ended (commanded v l))
+
+-- what is said stands at the start of the output buffer
+abbrev pub Answers : Bytes → Response → Said → Type 0
+Answers after r s = (r .volume ≡ s .volume) × (take (r .len) after ≡ s .said) × (r .len ≤ length after)
+
+-- the same, said by all that code leaves in the buffer
+abbrev pub Responds : Bytes → Bytes → Response → Said → Type 0
+Responds before after r s = (r .volume ≡ s .volume) × Written before after (r .len) (s .said)

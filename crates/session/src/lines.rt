@@ -1,0 +1,83 @@
+// A line of a request script, and its answer.
+use crate::Response;
+use crate::calls;
+use script::Args;
+use script::Verb;
+use script::arguments;
+use script::output;
+use script::verbs;
+use script::words;
+use volume::Volume;
+ghost use mathlib.Core.Path.{_≡_};
+ghost use Prim.Native.Nat.{_+_, _*_, _≤_};
+ghost use lib.ListN.{length, take};
+ghost use Rattle.session.specs.Answers.{malformed};
+ghost use Rattle.session.specs.Lines.{withoutReturn, isSkipped, directed, commanded, ended, answered, Responds, Answers};
+
+// One carriage return at the end is dropped.
+fn without_return(line: &[u8]) -> &[u8]
+    ensures { λ r. ⌜ now r ≡ withoutReturn (now (line .entry)) ⌝ }
+{
+    let n = line.len();
+    if n == 0 {
+        return line;
+    }
+    if line[n - 1] == 13 {
+        return &line[..n - 1];
+    }
+    line
+}
+
+// A line with no word, or a comment.
+fn is_skipped(line: &[u8]) -> bool
+    ensures { λ r. ⌜ r ≡ isSkipped (now (line .entry)) ⌝ }
+{
+    let w = words::first_word(line);
+    if w.len() == 0 {
+        return true;
+    }
+    w[0] == 35
+}
+
+// The request that the words make, or none.
+fn direct(v: Volume, verb: Verb, a: Args, beside: &mut [u8], out: &mut [u8]) -> Response
+    requires { ⌜ (1000 + 2 * length (now beside) ≤ length (now out)) × (a .len ≤ length (now beside)) ⌝ }
+    ensures { λ r. ⌜ Responds (now (out .entry)) (now (out .exit)) r (directed v verb a (take (a .len) (now (beside .entry)))) ⌝ }
+{
+    if !a.good {
+        return calls::malformed_line(v, out);
+    }
+    let n = a.len;
+    calls::perform(v, verb, a, &mut beside[..n], out)
+}
+
+// A line that is not skipped.
+fn command(v: Volume, line: &[u8], beside: &mut [u8], out: &mut [u8]) -> Response
+    requires { ⌜ (length (now line) ≤ length (now beside)) × (1000 + 2 * length (now beside) ≤ length (now out)) ⌝ }
+    ensures { λ r. ⌜ Responds (now (out .entry)) (now (out .exit)) r (commanded v (now (line .entry))) ⌝ }
+{
+    if 131072 < line.len() {
+        return calls::malformed_line(v, out);
+    }
+    let verb = verbs::verb(words::first_word(line));
+    let shape = verbs::shape_of(verb);
+    let a = arguments::read_words(shape, words::after_word(line), beside);
+    direct(v, verb, a, beside, out)
+}
+
+// The answer to a line, at the start of `out`, and the volume after it. `beside` is room for the bytes of a KEY, POLICY, NAME or BLOCK.
+pub fn answer_line(v: Volume, line: &[u8], beside: &mut [u8], out: &mut [u8]) -> Response
+    requires { ⌜ (length (now line) ≤ length (now beside)) × (1000 + 2 * length (now beside) ≤ length (now out)) ⌝ }
+    ensures { λ r. ⌜ Answers (now (out .exit)) r (answered v (now (line .entry))) ⌝ }
+{
+    let l = without_return(line);
+    if is_skipped(l) {
+        return Response { len: 0, volume: v };
+    }
+    let said = command(v, l, beside, out);
+    let w = said.volume;
+    Response {
+        len: output::put(out, said.len, b"\n"),
+        volume: w,
+    }
+}
