@@ -4,21 +4,24 @@
 use Prim.Native.Nat.{ℕ}
 use mathlib.Core.Path.{_≡_, refl, sym, _∙_, ap, ap₂}
 use mathlib.Core.Bool.{Bool, true, false, cond}
-use mathlib.Core.List.{List, [], _∷_, map}
+use mathlib.Core.Logic.{_≢_, _⊎_, inl, inr}
+use mathlib.Core.List.{List, [], _∷_, map, List·Memᴰ, List·Memᴰ·cases-cons}
 use mathlib.Core.Option.{Option, some, none}
-use Rattle.lists.specs.Bytes.{Bytes}
+use lib.ListN.{length}
+use Rattle.lists.specs.Bytes.{Bytes, zeros}
 use Rattle.fscrypt.specs.Cipher.{Cipher, Lawful, fscrypt}
 use Rattle.fscrypt.proofs.Lawfulness.{fscrypt-lawful}
 use Rattle.volume.specs.Request.{Request, addKey, removeKey, setPolicy, getPolicy, create, link, rename, exchange, remove, find, show, seal, unseal, Answer, refused, done, created, at, policyIs, shown}
 use Rattle.volume.specs.Lookup.{inodeAt}
 use Rattle.volume.specs.Run.{Moment, run}
-use Rattle.volume.specs.TwoRuns.{AllTyped, SameButKeys, OneKeyEach, blankRequest, blankStart, blankKey, blankEntry, blankVolume, blankShown, blankName, blankBlock, blankBuffer, blank, TwoRuns}
+use Rattle.volume.specs.TwoRuns.{Typed, AllTyped, SameButKeys, OneKeyEach, blankRequest, blankStart, blankKey, blankEntry, blankVolume, blankShown, blankName, blankBlock, blankBuffer, blank, Agree, TwoRuns}
 use Rattle.volume.specs.declared.Form.{Form}
 use Rattle.volume.specs.declared.Form.the-variants.{Plain, Decrypted, Encoded}
 use Rattle.volume.specs.declared.Key.{Key}
 use Rattle.volume.specs.declared.Inode.{Inode}
 use Rattle.volume.specs.declared.Entry.{Entry}
 use Rattle.volume.specs.declared.Volume.{Volume}
+use Rattle.volume.proofs.Typing.{one-more}
 use Rattle.volume.proofs.Runs.{two-runs}
 
 -- the theorem, of the ciphers that are used
@@ -200,3 +203,42 @@ module _ (C : Cipher) (law : Lawful C) (rs₁ rs₂ : List Request) (typed₁ : 
   pub same-buffers : map bufferOf (run C rs₁) ≡ map bufferOf (run C rs₂)
   unfolding blank
   same-buffers = same-seen bufferOf (λ m. left-buffer (m .request) (m .answer) (m .buffer))
+
+-- ---- the lists that are meant: two keys are added, whatever their bytes, and then anything is asked
+
+key-same : (d d′ k k′ : Bytes) → addKey d′ k′ ≡ addKey d k → (d′ ≡ d) × (k′ ≡ k)
+key-same d d′ k k′ h = (cc, cc)
+
+module _ (d e : Bytes) (apart : d ≢ e) (rs : List Request) (no-more : (d′ k′ : Bytes) → List·Memᴰ (addKey d′ k′) rs → ⊥) where
+  abbrev keyed : Bytes → Bytes → List Request
+  keyed k l = addKey d k ∷ addKey e l ∷ rs
+
+  one-of-two : (k l : Bytes) → OneKeyEach (keyed k l)
+  one-of-two k l d′ k₁ k₂ h₁ h₂ = both (which k₁ h₁) (which k₂ h₂)
+    where
+      which : (k′ : Bytes) → List·Memᴰ (addKey d′ k′) (keyed k l) → ((d′ ≡ d) × (k′ ≡ k)) ⊎ ((d′ ≡ e) × (k′ ≡ l))
+      which k′ h = first (List·Memᴰ·cases-cons h)
+        where
+          second : (addKey d′ k′ ≡ addKey e l) ⊎ List·Memᴰ (addKey d′ k′) rs → ((d′ ≡ d) × (k′ ≡ k)) ⊎ ((d′ ≡ e) × (k′ ≡ l))
+          second (inl q) = inr (key-same e d′ l k′ q)
+          second (inr m) = absurd (no-more d′ k′ m)
+
+          first : (addKey d′ k′ ≡ addKey d k) ⊎ List·Memᴰ (addKey d′ k′) (addKey e l ∷ rs) → ((d′ ≡ d) × (k′ ≡ k)) ⊎ ((d′ ≡ e) × (k′ ≡ l))
+          first (inl q) = inl (key-same d d′ k k′ q)
+          first (inr m) = second (List·Memᴰ·cases-cons m)
+
+      both : ((d′ ≡ d) × (k₁ ≡ k)) ⊎ ((d′ ≡ e) × (k₁ ≡ l)) → ((d′ ≡ d) × (k₂ ≡ k)) ⊎ ((d′ ≡ e) × (k₂ ≡ l)) → k₁ ≡ k₂
+      both (inl p) (inl q) = p .1 ∙ sym (q .1)
+      both (inl p) (inr q) = absurd (apart (sym (p .0) ∙ q .0))
+      both (inr p) (inl q) = absurd (apart (sym (q .0) ∙ p .0))
+      both (inr p) (inr q) = p .1 ∙ sym (q .1)
+
+  same-but-two : (k₁ k₂ l₁ l₂ : Bytes) → length k₁ ≡ length k₂ → length l₁ ≡ length l₂ → SameButKeys (keyed k₁ l₁) (keyed k₂ l₂)
+  unfolding blankRequest
+  same-but-two k₁ k₂ l₁ l₂ hk hl = ap₂ (λ (m n : ℕ). addKey d (zeros m) ∷ addKey e (zeros n) ∷ map blankRequest rs) hk hl
+
+  -- the runs agree whatever the bytes of the two keys are: nothing more is asked of a list
+  pub any-two-keys : (C : Cipher) → Lawful C → (k₁ k₂ l₁ l₂ : Bytes) → length k₁ ≡ length k₂ → length l₁ ≡ length l₂
+      → Typed (addKey d k₁) → Typed (addKey d k₂) → Typed (addKey e l₁) → Typed (addKey e l₂) → AllTyped rs → Agree (run C (keyed k₁ l₁)) (run C (keyed k₂ l₂))
+  any-two-keys C law k₁ k₂ l₁ l₂ hk hl tk₁ tk₂ tl₁ tl₂ ts =
+      two-runs C law _ _ (one-more _ _ tk₁ (one-more _ _ tl₁ ts)) (one-more _ _ tk₂ (one-more _ _ tl₂ ts)) (same-but-two k₁ k₂ l₁ l₂ hk hl) (one-of-two k₁ l₁) (one-of-two k₂ l₂)

@@ -25,5 +25,6 @@ mod TwinStore
 mod TwinNames
 mod TwinMoves
 mod TwinShow
+pub mod Typing
 pub mod Runs
 pub mod Corollaries
