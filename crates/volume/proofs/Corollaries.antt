@@ -5,16 +5,18 @@ use Prim.Native.Nat.{ℕ}
 use mathlib.Core.Path.{_≡_, refl, sym, _∙_, ap, ap₂}
 use mathlib.Core.Bool.{Bool, true, false, cond}
 use mathlib.Core.Logic.{_≢_, _⊎_, inl, inr}
-use mathlib.Core.List.{List, [], _∷_, map, List·Memᴰ, List·Memᴰ·cases-cons}
+use mathlib.Core.List.{List, [], _∷_, _++_, map, List·Memᴰ, List·Memᴰ·cases-cons}
 use mathlib.Core.Option.{Option, some, none}
-use lib.ListN.{length}
+use lib.ListN.{length, getD, take, drop, length-replicate}
+use lib.Seq.{drop-at}
+use lib.Dec.{leb}
 use Rattle.lists.specs.Bytes.{Bytes, zeros}
 use Rattle.fscrypt.specs.Cipher.{Cipher, Lawful, fscrypt}
 use Rattle.fscrypt.proofs.Lawfulness.{fscrypt-lawful}
 use Rattle.volume.specs.Request.{Request, addKey, removeKey, setPolicy, getPolicy, create, link, rename, exchange, remove, find, show, seal, unseal, Answer, refused, done, created, at, policyIs, shown}
 use Rattle.volume.specs.Lookup.{inodeAt}
 use Rattle.volume.specs.Run.{Moment, run}
-use Rattle.volume.specs.TwoRuns.{Typed, AllTyped, SameButKeys, OneKeyEach, blankRequest, blankStart, blankKey, blankEntry, blankVolume, blankShown, blankName, blankBlock, blankBuffer, blank, Agree, TwoRuns}
+use Rattle.volume.specs.TwoRuns.{Typed, AllTyped, SameButKeys, OneKeyEach, blankRequest, blankStart, blankKey, blankEntry, blankVolume, blankLetters, blankShown, blankName, blankBlock, blankBuffer, blank, Agree, TwoRuns}
 use Rattle.volume.specs.declared.Form.{Form}
 use Rattle.volume.specs.declared.Form.the-variants.{Plain, Decrypted, Encoded}
 use Rattle.volume.specs.declared.Key.{Key}
@@ -65,11 +67,12 @@ slotOf k = record { len = k .len; descriptor = k .descriptor; bytes = [] }
 abbrev pub slotsOf : Moment → List Key
 slotsOf m = map slotOf (m .volume .keys)
 
--- a buffer that may not differ: none for letters, for a block that was sealed or opened, and for the key of an add key
-abbrev pub shownIn : Form → Bytes → Option Bytes
-shownIn Plain b = some b
-shownIn Decrypted b = some b
-shownIn Encoded b = none
+-- what may not differ of a buffer: nothing of a block that was sealed or opened and of the key of an add key; of a name without its key the bytes behind it, and
+-- of a long one its `_` and its two digits
+abbrev pub shownIn : Form → ℕ → Bytes → Option Bytes
+shownIn Plain n b = some b
+shownIn Decrypted n b = some b
+shownIn Encoded n b = some (cond (leb n 214) (drop n b) (getD b 0 0 ∷ drop 215 b))
 
 abbrev pub nameIn : Answer → Bytes → Option Bytes
 nameIn (refused n) b = some b
@@ -77,7 +80,7 @@ nameIn done b = some b
 nameIn (created i e) b = some b
 nameIn (at e) b = some b
 nameIn (policyIs p) b = some b
-nameIn (shown s) b = shownIn (s .form) b
+nameIn (shown s) b = shownIn (s .form) (s .len) b
 
 abbrev pub blockIn : Answer → Bytes → Option Bytes
 blockIn (refused n) b = some b
@@ -131,11 +134,25 @@ same-slots-of : (ks : List Key) → map slotOf (map blankKey ks) ≡ map slotOf 
 same-slots-of [] = refl
 same-slots-of (k ∷ ks) = ap (slotOf k ∷_) (same-slots-of ks)
 
-left-shown : (f : Form) (n : ℕ) (b : Bytes) → shownIn f (blankShown f n b) ≡ shownIn f b
-unfolding blankShown
+left-start : (n : ℕ) (b : Bytes) → drop n (blankStart n b) ≡ drop n b
+unfolding zeros
+left-start n b = drop-at (zeros n) (drop n b) n (length-replicate n 0)
+
+left-ends : (b : Bytes) → _≡_ {A = Bytes} (getD (take 1 b ++ blankStart 214 (drop 1 b)) 0 0 ∷ drop 215 (take 1 b ++ blankStart 214 (drop 1 b))) (getD b 0 0 ∷ drop 215 b)
+unfolding zeros
+left-ends [] = refl
+left-ends (x ∷ xs) = ap (x ∷_) (left-start 214 xs)
+
+left-letters : (t : Bool) (n : ℕ) (b : Bytes) → let c = cond t (blankStart n b) (take 1 b ++ blankStart 214 (drop 1 b)) in
+    cond t (drop n c) (getD c 0 0 ∷ drop 215 c) ≡ cond t (drop n b) (getD b 0 0 ∷ drop 215 b)
+left-letters true n b = left-start n b
+left-letters false n b = left-ends b
+
+left-shown : (f : Form) (n : ℕ) (b : Bytes) → shownIn f n (blankShown f n b) ≡ shownIn f n b
+unfolding blankShown blankLetters
 left-shown Plain n b = refl
 left-shown Decrypted n b = refl
-left-shown Encoded n b = refl
+left-shown Encoded n b = ap some (left-letters (leb n 214) n b)
 
 left-buffer-named : (a : Answer) (b : Bytes) → nameIn a (blankName a b) ≡ nameIn a b
 unfolding blankName
