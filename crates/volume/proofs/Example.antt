@@ -23,11 +23,11 @@ use Rattle.volume.specs.declared.Form.{Form}
 use Rattle.volume.specs.declared.Form.the-variants.{Plain, Decrypted, Encoded}
 
 -- each byte moved on by t
-moved : ℕ → Bytes → Bytes
+unfoldable pub moved : ℕ → Bytes → Bytes
 moved t x = map (λ (b : ℕ). (b + t) % 256) x
 
 -- a derived key is moved by the nonce's first byte, and a text by the key's
-small : Cipher
+unfoldable pub small : Cipher
 small =
     record {
       derive = λ k x. moved (getD x 0 0) k;
@@ -37,16 +37,16 @@ small =
       unseal = λ k n b. moved ((256 - getD k 0 0) % 256) b;
     }
 
-inode : ℕ → InodeNumber
+unfoldable pub inode : ℕ → InodeNumber
 inode n = record { 0 = n }
 
-entry : ℕ → EntryNumber
+unfoldable pub entry : ℕ → EntryNumber
 entry n = record { 0 = n }
 
 seen : ℕ → ℕ → ℕ → Form → ℕ → Answer
 seen p i kind form n = shown (record { parent = inode p; inode = inode i; kind = kind; form = form; len = n })
 
-nonce : ℕ → Bytes
+unfoldable pub nonce : ℕ → Bytes
 nonce n = n ∷ zeros 15
 
 descriptor : Bytes

@@ -1,6 +1,7 @@
 -- The laws of volume. Public are those that a crate above cites.
 mod Starred
 mod Example
+mod Occasions
 -- every reachable volume is sound
 mod SoundPolicy
 mod SoundCore
