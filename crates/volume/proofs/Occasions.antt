@@ -1,8 +1,9 @@
 -- Each refusal on its occasion, computed from the definitions: nearly every request here fails two checks that stand next to each other in document 01's order, and
--- answers the number of the earlier. Room for inodes and entries is left out. Assumes nothing.
-use Prim.Native.Nat.{ℕ}
+-- answers the number of the earlier. Assumes nothing.
+use Prim.Native.Nat.{ℕ, zero, suc, _+_}
 use mathlib.Core.Path.{_≡_, refl}
-use mathlib.Core.List.{List, [], _∷_, map}
+use mathlib.Core.List.{List, [], _∷_, _++_, map}
+use lib.ListN.{drop}
 use Rattle.lists.specs.Bytes.{Bytes, zeros, firstAt, same}
 use Rattle.errno.specs.Refusals.{_⇒_, _>>_}
 use Rattle.policy.specs.Policies.{isPair, isValid, samePolicy, isMasterKeySize, nameKeySize, policyBytes, policyAt, policyCheck, readPolicy}
@@ -43,7 +44,7 @@ occasions =
     ∷ (create (inode 1) 4 (115 ∷ []) (nonce 1), created (inode 7) (entry 6))
     ∷ (create (inode 1) 1 (120 ∷ []) (nonce 4), created (inode 8) (entry 7))
     ∷ (addKey (descriptor 8) (key 0), done)
-    ∷ (setPolicy (inode 6) (policy 8) (nonce 3), done)
+    ∷ (setPolicy (inode 6) (policy 8) (nonce 0), done)
     ∷ (create (inode 6) 2 (121 ∷ []) (nonce 5), created (inode 9) (entry 8))
     ∷ (removeKey (descriptor 8), done)
     ∷ (create (inode 0) 1 (101 ∷ []) (nonce 0), created (inode 10) (entry 9))
@@ -106,6 +107,7 @@ occasions =
     -- exchange: places, keys, policies, folders, each for both sides
     ∷ (exchange (entry 8) (entry 50), refused 2)
     ∷ (exchange (entry 50) (entry 8), refused 2)
+    ∷ (exchange (entry 1) (entry 8), refused 126)
     ∷ (exchange (entry 8) (entry 2), refused 126)
     ∷ (exchange (entry 2) (entry 8), refused 126)
     -- an entry with itself needs the key
@@ -155,3 +157,33 @@ occasions =
 on-its-occasion : map (λ (m : Moment). m .answer) (run small (map (λ (r : Request × Answer). r .0) occasions)) ≡ map (λ (r : Request × Answer). r .1) occasions
 unfolding moved small inode entry nonce descriptor policy key occasions runFrom momentOf step settle lent check effect fresh childOf withoutUnheld _⇒_ _>>_ zeros firstAt same isPair isValid samePolicy isMasterKeySize nameKeySize policyBytes policyAt policyCheck readPolicy isDotName isBadName nameCheck rounded paddedLength padded encrypted beforeNul isAllNul paddingCheck readPadded letter letters hexDigit encoded keySlotOf freeKeySlot keyOf keyPresent keyNeeded freeInode bearsNonce nonceHolder freeEntry entryNamed firstChild firstLink parentOf climbFrom isUnderItself directoryCheck isPolicyRefused isBadKind isBadKeyLength isNonceNeeded derivedKey nameKey stored readName shownName isUnreadable formIn addKeyCheck removeKeyCheck setPolicyCheck getPolicyCheck removeCheck exchangeCheck blockCheck createCheck linkCheck renameCheck findCheck showCheck
 on-its-occasion = refl
+
+-- ---- a full volume: the nonce, and the name taken, before room
+
+below : ℕ → List ℕ
+below zero = []
+below (suc n) = n ∷ below n
+
+-- an encrypted directory 1 with a file 2; 61 files in the root, and one more entry of the last of them
+crowd : List Request
+crowd =
+    addKey (descriptor 7) (key 9)
+    ∷ create (inode 0) 1 (100 ∷ []) (nonce 0)
+    ∷ setPolicy (inode 1) (policy 7) (nonce 1)
+    ∷ create (inode 1) 2 (97 ∷ []) (nonce 2)
+    ∷ (map (λ (n : ℕ). create (inode 0) 2 (200 ∷ (100 + n) ∷ []) (nonce 0)) (below 61) ++ (link (inode 63) (inode 0) (108 ∷ []) ∷ []))
+
+last : List (Request × Answer)
+last =
+    (create (inode 1) 2 (98 ∷ []) (nonce 1), refused 76)
+    ∷ (create (inode 1) 2 (98 ∷ []) (nonce 3), refused 28)
+    ∷ (link (inode 2) (inode 1) (97 ∷ []), refused 17)
+    ∷ (link (inode 2) (inode 1) (98 ∷ []), refused 28)
+    ∷ (remove (entry 63), done)
+    ∷ (create (inode 1) 2 (98 ∷ []) (nonce 3), refused 28)
+    ∷ (link (inode 2) (inode 1) (98 ∷ []), at (entry 63))
+    ∷ []
+
+full : map (λ (m : Moment). m .answer) (drop 66 (run small (crowd ++ map (λ (r : Request × Answer). r .0) last))) ≡ map (λ (r : Request × Answer). r .1) last
+unfolding moved small inode entry nonce descriptor policy key below crowd last runFrom momentOf step settle lent check effect fresh childOf withoutUnheld _⇒_ _>>_ zeros firstAt same isPair isValid samePolicy isMasterKeySize nameKeySize policyBytes policyAt policyCheck readPolicy isDotName isBadName nameCheck rounded paddedLength padded encrypted beforeNul isAllNul paddingCheck readPadded letter letters hexDigit encoded keySlotOf freeKeySlot keyOf keyPresent keyNeeded freeInode bearsNonce nonceHolder freeEntry entryNamed firstChild firstLink parentOf climbFrom isUnderItself directoryCheck isPolicyRefused isBadKind isBadKeyLength isNonceNeeded derivedKey nameKey stored readName shownName isUnreadable formIn addKeyCheck removeKeyCheck setPolicyCheck getPolicyCheck removeCheck exchangeCheck blockCheck createCheck linkCheck renameCheck findCheck showCheck
+full = refl
