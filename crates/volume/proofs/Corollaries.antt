@@ -16,7 +16,9 @@ use Rattle.fscrypt.proofs.Lawfulness.{fscrypt-lawful}
 use Rattle.volume.specs.Request.{Request, addKey, removeKey, setPolicy, getPolicy, create, link, rename, exchange, remove, find, show, seal, unseal, Answer, refused, done, created, at, policyIs, shown}
 use Rattle.volume.specs.Lookup.{inodeAt}
 use Rattle.volume.specs.Run.{Moment, run}
-use Rattle.volume.specs.TwoRuns.{Typed, AllTyped, SameButKeys, OneKeyEach, blankRequest, blankStart, blankKey, blankEntry, blankVolume, blankLetters, blankShown, blankName, blankBlock, blankBuffer, blank, Agree, TwoRuns}
+use Rattle.volume.specs.TwoRuns.{Typed, AllTyped, SameButKeys, OneKeyEach, blankRequest, blankStart, blankKey, blankEntry, blankVolume, blankLetters, blankShown, blankName, blankBlock, blankBuffer, blank, given, NamesAsGiven, Agree, TwoRuns}
+use Rattle.volume.specs.declared.EntryNumber.{EntryNumber}
+use Rattle.volume.specs.declared.ShownEntry.{ShownEntry}
 use Rattle.volume.specs.declared.Form.{Form}
 use Rattle.volume.specs.declared.Form.the-variants.{Plain, Decrypted, Encoded}
 use Rattle.volume.specs.declared.Key.{Key}
@@ -220,6 +222,14 @@ module _ (C : Cipher) (law : Lawful C) (rs₁ rs₂ : List Request) (typed₁ : 
   pub same-buffers : map bufferOf (run C rs₁) ≡ map bufferOf (run C rs₂)
   unfolding blank
   same-buffers = same-seen bufferOf (λ m. left-buffer (m .request) (m .answer) (m .buffer))
+
+  -- of either list alone: show never says EUCLEAN, and a name that it shows plain or decrypted is the given one
+  pub never-unclean : (past next : List Moment) (m : Moment) → run C rs₁ ≡ past ++ (m ∷ next) → (e : EntryNumber) (b : Bytes) → m .request ≡ show e b → m .answer ≢ refused 117
+  never-unclean = two-runs C law rs₁ rs₂ typed₁ typed₂ agree one₁ one₂ .names₁ .clean
+
+  pub shown-as-given : (past next : List Moment) (m : Moment) → run C rs₁ ≡ past ++ (m ∷ next) → (e : EntryNumber) (b : Bytes) → m .request ≡ show e b
+      → (s : ShownEntry) → m .answer ≡ shown s → s .form ≢ Encoded → given past (e .0) ≡ some (take (s .len) (m .buffer))
+  shown-as-given = two-runs C law rs₁ rs₂ typed₁ typed₂ agree one₁ one₂ .names₁ .named
 
 -- ---- the lists that are meant: two keys are added, whatever their bytes, and then anything is asked
 
