@@ -1,8 +1,11 @@
 // What holds of every list of requests, as contracts: each function does nothing, and its `ensures` is the theorem. No premise on the ciphers is left.
+use volume::EntryNumber;
+use volume::InodeNumber;
+ghost use Rattle.lists.specs.Bytes.{ByteList};
 ghost use Rattle.fscrypt.specs.Cipher.{fscrypt};
 ghost use Rattle.volume.specs.PolicyClause.{PolicyClause};
 ghost use Rattle.volume.specs.SealedOpens.{SealedOpens};
-ghost use Rattle.volume.specs.TwoRuns.{TwoRuns};
+ghost use Rattle.volume.specs.TwoRuns.{AllTyped, thirteen, TwoRuns};
 ghost use Rattle.requests.specs.Claims.{AlwaysSound};
 
 // A fresh volume is sound, and so is the volume after every request of every list.
@@ -19,6 +22,34 @@ pub fn policies_hold()
 pub fn sealed_blocks_open()
     ensures { λ _. ⌜ SealedOpens fscrypt ⌝ }
 {}
+
+fn nothing() {}
+
+// The elements of a slice of bytes are bytes.
+fn are_bytes(s: &[u8])
+    ensures { λ _. ⌜ ByteList (now (s .entry)) ⌝ }
+{
+    nothing();
+}
+
+// What the claims ask of a list, its types say: whatever its parts are, each of the thirteen requests may stand in it.
+pub fn every_request_is_typed(
+    i: InodeNumber,
+    p: InodeNumber,
+    a: EntryNumber,
+    b: EntryNumber,
+    kind: u64,
+    number: u64,
+    d: [u8; 8],
+    x: [u8; 16],
+    s: &[u8],
+)
+    ensures { λ _. ⌜ AllTyped (thirteen i p a b kind number d x (now (s .entry))) ⌝ }
+{
+    are_bytes(&d);
+    are_bytes(&x);
+    are_bytes(s);
+}
 
 // Demand 3: two lists that differ only in key bytes.
 pub fn two_runs_agree()

@@ -1,4 +1,4 @@
--- A run computed from the definitions, under a small cipher whose keys matter: it meets every form of answer and ten different refusals, so nothing that is
+-- Runs computed from the definitions, under a small cipher whose keys matter: they meet every form of answer and ten different refusals, so nothing that is
 -- stated about runs is stated of nothing. Assumes nothing.
 use Prim.Native.Nat.{ℕ, _+_, _-_, _%_}
 use mathlib.Core.Path.{_≡_, refl}
@@ -12,7 +12,7 @@ use Rattle.fscrypt.specs.Names.{isDotName, isBadName, nameCheck, rounded, padde
 use Rattle.fscrypt.specs.Encoded.{letter, letters, hexDigit, encoded}
 use Rattle.volume.specs.Volume.{fresh}
 use Rattle.volume.specs.Request.{Request, addKey, removeKey, setPolicy, getPolicy, create, link, rename, exchange, remove, find, show, seal, unseal, Answer, refused, done, created, at, policyIs, shown}
-use Rattle.volume.specs.Lookup.{keySlotOf, freeKeySlot, keyOf, keyPresent, keyNeeded, freeInode, bearsNonce, nonceHolder, freeEntry, entryNamed, firstChild, firstLink, parentOf, climbFrom, isUnderItself}
+use Rattle.volume.specs.Lookup.{entryAt, keySlotOf, freeKeySlot, keyOf, keyPresent, keyNeeded, freeInode, bearsNonce, nonceHolder, freeEntry, entryNamed, firstChild, firstLink, parentOf, climbFrom, isUnderItself}
 use Rattle.volume.specs.Checks.{directoryCheck, isPolicyRefused, isBadKind, isBadKeyLength, isNonceNeeded, derivedKey, nameKey, stored, readName, shownName, isUnreadable, formIn, addKeyCheck, removeKeyCheck, setPolicyCheck, getPolicyCheck, removeCheck, exchangeCheck, blockCheck, createCheck, linkCheck, renameCheck, findCheck, showCheck}
 use Rattle.volume.specs.Step.{childOf, withoutUnheld, lent, check, effect, settle, step}
 use Rattle.volume.specs.Run.{Moment, momentOf, runFrom, run}
@@ -23,11 +23,11 @@ use Rattle.volume.specs.declared.Form.{Form}
 use Rattle.volume.specs.declared.Form.the-variants.{Plain, Decrypted, Encoded}
 
 -- each byte moved on by t
-moved : ℕ → Bytes → Bytes
+unfoldable pub moved : ℕ → Bytes → Bytes
 moved t x = map (λ (b : ℕ). (b + t) % 256) x
 
 -- a derived key is moved by the nonce's first byte, and a text by the key's
-small : Cipher
+unfoldable pub small : Cipher
 small =
     record {
       derive = λ k x. moved (getD x 0 0) k;
@@ -37,16 +37,16 @@ small =
       unseal = λ k n b. moved ((256 - getD k 0 0) % 256) b;
     }
 
-inode : ℕ → InodeNumber
+unfoldable pub inode : ℕ → InodeNumber
 inode n = record { 0 = n }
 
-entry : ℕ → EntryNumber
+unfoldable pub entry : ℕ → EntryNumber
 entry n = record { 0 = n }
 
 seen : ℕ → ℕ → ℕ → Form → ℕ → Answer
 seen p i kind form n = shown (record { parent = inode p; inode = inode i; kind = kind; form = form; len = n })
 
-nonce : ℕ → Bytes
+unfoldable pub nonce : ℕ → Bytes
 nonce n = n ∷ zeros 15
 
 descriptor : Bytes
@@ -129,3 +129,31 @@ answers : map (λ (m : Moment). m .answer) (run small requests)
     ∷ []
 unfolding moved small inode entry seen nonce descriptor policy requests runFrom momentOf step settle lent check effect fresh childOf withoutUnheld _⇒_ _>>_ zeros firstAt same isPair isValid samePolicy isMasterKeySize nameKeySize policyBytes policyAt policyCheck readPolicy isDotName isBadName nameCheck rounded paddedLength padded encrypted beforeNul isAllNul paddingCheck readPadded letter letters hexDigit encoded keySlotOf freeKeySlot keyOf keyPresent keyNeeded freeInode bearsNonce nonceHolder freeEntry entryNamed firstChild firstLink parentOf climbFrom isUnderItself directoryCheck isPolicyRefused isBadKind isBadKeyLength isNonceNeeded derivedKey nameKey stored readName shownName isUnreadable formIn addKeyCheck removeKeyCheck setPolicyCheck getPolicyCheck removeCheck exchangeCheck blockCheck createCheck linkCheck renameCheck findCheck showCheck
 answers = refl
+
+-- ---- what is written
+
+writes : List Request
+writes =
+    addKey descriptor (9 ∷ zeros 63)
+    ∷ create (inode 0) 1 (100 ∷ []) (nonce 0)
+    ∷ setPolicy (inode 1) policy (nonce 1)
+    ∷ create (inode 1) 2 (97 ∷ []) (nonce 2)
+    ∷ seal (inode 2) 0 (zeros 4096)
+    ∷ unseal (inode 2) 0 (replicate 4096 11)
+    ∷ []
+
+-- the answer, the buffer's first byte and the first byte of entry 1's stored name
+written : Moment → Answer × ℕ × ℕ
+written m = (m .answer, getD (m .buffer) 0 0, getD (entryAt (m .volume) (entry 1) .name) 0 0)
+
+-- the name is moved by 9 and its directory's nonce, the block by 9 and the nonce of its own inode: a key that was not derived, or the other one's, would show
+bytes : map written (run small writes)
+    ≡ (done, 9, 0)
+    ∷ (created (inode 1) (entry 0), 0, 0)
+    ∷ (done, 0, 0)
+    ∷ (created (inode 2) (entry 1), 0, 107)
+    ∷ (done, 11, 107)
+    ∷ (done, 0, 107)
+    ∷ []
+unfolding moved small inode entry seen nonce descriptor policy writes written runFrom momentOf step settle lent check effect fresh childOf withoutUnheld _⇒_ _>>_ zeros firstAt same isPair isValid samePolicy isMasterKeySize nameKeySize policyBytes policyAt policyCheck readPolicy isDotName isBadName nameCheck rounded paddedLength padded encrypted beforeNul isAllNul paddingCheck readPadded letter letters hexDigit encoded keySlotOf freeKeySlot keyOf keyPresent keyNeeded freeInode bearsNonce nonceHolder freeEntry entryNamed firstChild firstLink parentOf climbFrom isUnderItself directoryCheck isPolicyRefused isBadKind isBadKeyLength isNonceNeeded derivedKey nameKey stored readName shownName isUnreadable formIn addKeyCheck removeKeyCheck setPolicyCheck getPolicyCheck removeCheck exchangeCheck blockCheck createCheck linkCheck renameCheck findCheck showCheck
+bytes = refl

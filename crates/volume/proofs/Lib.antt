@@ -1,6 +1,7 @@
 -- The laws of volume. Public are those that a crate above cites.
 mod Starred
 mod Example
+mod Occasions
 -- every reachable volume is sound
 mod SoundPolicy
 mod SoundCore
@@ -25,5 +26,6 @@ mod TwinStore
 mod TwinNames
 mod TwinMoves
 mod TwinShow
+pub mod Typing
 pub mod Runs
 pub mod Corollaries

@@ -15,6 +15,7 @@ use Rattle.fscrypt.specs.Cipher.{Cipher}
 use Rattle.volume.specs.Request.{Request, addKey, removeKey, setPolicy, getPolicy, create, link, rename, exchange, remove, find, show, seal, unseal, Answer, refused, done, created, at, policyIs, shown}
 use Rattle.volume.specs.Lookup.{inodeAt}
 use Rattle.volume.specs.Run.{Moment, run}
+use Rattle.volume.specs.declared.InodeNumber.{InodeNumber}
 use Rattle.volume.specs.declared.EntryNumber.{EntryNumber}
 use Rattle.volume.specs.declared.Key.{Key}
 use Rattle.volume.specs.declared.Inode.{Inode}
@@ -44,6 +45,24 @@ Typed (unseal i n b) = ByteList b
 
 abbrev pub AllTyped : List Request → Type 0
 AllTyped rs = (r : Request) → List·Memᴰ r rs → Typed r
+
+-- each of the thirteen requests, with any parts
+abbrev pub thirteen : InodeNumber → InodeNumber → EntryNumber → EntryNumber → ℕ → ℕ → Bytes → Bytes → Bytes → List Request
+thirteen i p a b kind number d x s =
+    addKey d s
+    ∷ removeKey d
+    ∷ setPolicy i s x
+    ∷ getPolicy i
+    ∷ create p kind s x
+    ∷ link i p s
+    ∷ rename a p s
+    ∷ exchange a b
+    ∷ remove a
+    ∷ find p s
+    ∷ show a s
+    ∷ seal i number s
+    ∷ unseal i number s
+    ∷ []
 
 -- the request with zeros for the bytes of its key
 unfoldable pub blankRequest : Request → Request

@@ -15,7 +15,7 @@ abbrev Inv-loop : tie.InvT-loop
 Inv-loop buf₀ n len i₀ buf i = (i ≤ len) × (len ≡ n .len) × (buf ≡ laid buf₀ (nameBytes n) i) × (length buf ≡ length buf₀) × Sized (n .len) (n .bytes) × (255 ≤ length buf₀)
 
 abbrev μ-loop : tie.MeasureT-loop
-μ-loop buf₀ n len i₀ buf i = len - i
+μ-loop buf₀ n len i₀ buf i = 255 - i
 
 cast-len : tie.Need-cast-len Inv-loop μ-loop
 cast-len c = search needs

@@ -1,0 +1,39 @@
+-- A list of each of the thirteen requests is typed where its descriptor and nonce have their lengths and its bytes are bytes: what the claims ask of a list leaves
+-- no request out. Assumes nothing.
+use mathlib.Core.Path.{_≡_, sym, subst}
+use mathlib.Core.Logic.{_⊎_, inl, inr}
+use mathlib.Core.List.{List, [], _∷_, List·Memᴰ, List·Memᴰ·not-nil, List·Memᴰ·cases-cons}
+use Prim.Native.Nat.{ℕ}
+use lib.ListN.{length}
+use Rattle.lists.specs.Bytes.{Bytes, ByteList}
+use Rattle.volume.specs.Request.{Request}
+use Rattle.volume.specs.TwoRuns.{Typed, AllTyped, thirteen}
+use Rattle.volume.specs.declared.InodeNumber.{InodeNumber}
+use Rattle.volume.specs.declared.EntryNumber.{EntryNumber}
+
+pub none-typed : AllTyped []
+none-typed r h = absurd (List·Memᴰ·not-nil h)
+
+pub one-more : (r : Request) (rs : List Request) → Typed r → AllTyped rs → AllTyped (r ∷ rs)
+one-more r rs t ts q h = go (List·Memᴰ·cases-cons h)
+  where
+    go : (q ≡ r) ⊎ List·Memᴰ q rs → Typed q
+    go (inl e) = subst Typed (sym e) t
+    go (inr p) = ts q p
+
+pub thirteen-typed : (i p : InodeNumber) (a b : EntryNumber) (kind number : ℕ) (d x s : Bytes) → length d ≡ 8 → length x ≡ 16 → ByteList d → ByteList x → ByteList s
+    → AllTyped (thirteen i p a b kind number d x s)
+thirteen-typed i p a b kind number d x s ld lx bd bx bs =
+    one-more _ _ (ld, bd, bs)
+    (one-more _ _ (ld, bd)
+    (one-more _ _ (bs, lx, bx)
+    (one-more _ _ tt
+    (one-more _ _ (bs, lx, bx)
+    (one-more _ _ bs
+    (one-more _ _ bs
+    (one-more _ _ tt
+    (one-more _ _ tt
+    (one-more _ _ bs
+    (one-more _ _ bs
+    (one-more _ _ bs
+    (one-more _ _ bs none-typed))))))))))))
