@@ -2,7 +2,7 @@
 -- Assumes nothing.
 use Prim.Native.Nat.{_≤_}
 use native.Mathlib.Omega.{arith}
-use lib.ListN.{length, take, drop, length-take, length-drop}
+use lib.ListN.{length, length-take, length-drop}
 use Rattle.lists.specs.Bytes.{Bytes, firstAt}
 use Rattle.script.specs.Words.{isBlank, isInk, trimmed, firstWord, afterWord}
 

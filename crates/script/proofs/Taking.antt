@@ -6,7 +6,7 @@ use mathlib.Core.Bool.{Bool, true, false, cond, true≢false}
 use lib.ListN.{length, take, drop, drop-of-length-le}
 use lib.Dec.{eqb}
 use native.Mathlib.Omega.{arith}
-use mathlib.Core.List.{List, [], _++_, append-nil}
+use mathlib.Core.List.{[], _++_, append-nil}
 use lib.Seq.{take-append-seam}
 use Rattle.lists.specs.Bytes.{Bytes, same, zeros, laidOver}
 use Rattle.lists.proofs.Tests.{and-right, eqb-true}

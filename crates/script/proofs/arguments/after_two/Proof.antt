@@ -1,5 +1,5 @@
 -- `after_two`: twice what follows a word. Assumes nothing.
-use mathlib.Core.Path.{_≡_, refl, sym, _∙_, ap}
+use mathlib.Core.Path.{_∙_, ap}
 use Rattle.script.specs.Words.{afterWord}
 use borrow.Author.Needs.{needs}
 use Rattle.script.proofs.arguments.after_two.Statement.{statement}

@@ -1,6 +1,5 @@
 -- `descriptor_in`: 8 bytes laid over 8 zeros. Assumes nothing.
-use native.Mathlib.Omega.{arith}
-use mathlib.Core.Path.{_≡_, refl, sym, _∙_, ap}
+use mathlib.Core.Path.{_∙_}
 use Rattle.script.proofs.Taking.{laid-whole}
 use borrow.Author.Needs.{needs}
 use Rattle.script.proofs.arguments.descriptor_in.Statement.{statement}

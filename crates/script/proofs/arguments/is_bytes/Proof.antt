@@ -1,5 +1,5 @@
 -- `is_bytes`: the two tests of the definition. Assumes nothing.
-use mathlib.Core.Path.{_≡_, refl, sym, _∙_, ap}
+use mathlib.Core.Path.{sym, _∙_, ap}
 use borrow.Author.Tests.{not-true, not-false}
 use Rattle.lists.proofs.Predicates.{and-stop, and-go}
 use lib.Dec.{eqb}

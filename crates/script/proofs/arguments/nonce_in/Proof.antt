@@ -1,6 +1,5 @@
 -- `nonce_in`: 16 bytes laid over 16 zeros. Assumes nothing.
-use native.Mathlib.Omega.{arith}
-use mathlib.Core.Path.{_≡_, refl, sym, _∙_, ap}
+use mathlib.Core.Path.{_∙_}
 use Rattle.script.proofs.Taking.{laid-whole}
 use borrow.Author.Needs.{needs}
 use Rattle.script.proofs.arguments.nonce_in.Statement.{statement}

@@ -1,13 +1,12 @@
 -- `read_words`: two words, two words, and none. Assumes nothing.
 use Prim.Native.Nat.{ℕ}
-use lib.ListN.{take}
+use lib.ListN.{take, length}
 use Rattle.script.specs.declared.Args.{Args}
 use Rattle.script.proofs.Taking.{kept, took-all}
 use Rattle.script.specs.declared.Sort.the-variants.{Nothing}
 use native.Mathlib.Omega.{arith}
-use mathlib.Core.Path.{_≡_, refl, sym, _∙_, ap}
+use mathlib.Core.Path.{refl, _∙_, ap}
 use denote.Ref.{now}
-use lib.ListN.{length}
 use Rattle.script.specs.Words.{afterWord}
 use Rattle.script.proofs.Lines.{afterWord-length}
 use borrow.Author.Needs.{needs}

@@ -1,7 +1,6 @@
 -- `take_descriptor`: eight bytes. Assumes nothing.
-use mathlib.Core.Path.{_≡_, refl, sym, _∙_, ap}
-use denote.Ref.{now}
-use borrow.Author.Tests.{not-true, not-false, eq-eqb, ne-eqb}
+use mathlib.Core.Path.{sym, _∙_, ap}
+use borrow.Author.Tests.{not-true, not-false}
 use Rattle.script.specs.Commands.{withDescriptor}
 use Rattle.script.proofs.Taking.{descriptor-is, descriptor-not, isBytes-count}
 use borrow.Author.Needs.{needs}

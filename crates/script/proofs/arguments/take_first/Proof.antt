@@ -1,5 +1,5 @@
 -- `take_first`: the number that was read. Assumes nothing.
-use mathlib.Core.Path.{_≡_, refl, sym, _∙_, ap}
+use mathlib.Core.Path.{sym, _∙_}
 use Rattle.script.proofs.Taking.{first-is}
 use borrow.Author.Needs.{needs}
 use Rattle.script.proofs.arguments.take_first.Statement.{statement}

@@ -1,7 +1,6 @@
 -- `take_nonce`: sixteen zeros, or sixteen bytes. Assumes nothing.
-use mathlib.Core.Path.{_≡_, refl, sym, _∙_, ap}
-use denote.Ref.{now}
-use borrow.Author.Tests.{not-true, not-false, eq-eqb, ne-eqb}
+use mathlib.Core.Path.{sym, _∙_, ap}
+use borrow.Author.Tests.{not-true, not-false}
 use Rattle.lists.specs.Bytes.{zeros}
 use Rattle.script.specs.Commands.{withNonce}
 use Rattle.script.proofs.Taking.{nonce-none, nonce-is, nonce-not, isBytes-count}

@@ -1,5 +1,5 @@
 -- `take_second`: the number that was read. Assumes nothing.
-use mathlib.Core.Path.{_≡_, refl, sym, _∙_, ap}
+use mathlib.Core.Path.{sym, _∙_}
 use Rattle.script.proofs.Taking.{second-is}
 use borrow.Author.Needs.{needs}
 use Rattle.script.proofs.arguments.take_second.Statement.{statement}

@@ -1,6 +1,6 @@
 -- `take_size`: 255 where the word is left out. Assumes nothing.
-use mathlib.Core.Path.{_≡_, refl, sym, _∙_, ap}
-use borrow.Author.Tests.{not-true, not-false, eq-eqb, ne-eqb}
+use mathlib.Core.Path.{_∙_}
+use borrow.Author.Tests.{eq-eqb, ne-eqb}
 use Rattle.script.proofs.Taking.{size-none, size-is}
 use borrow.Author.Needs.{needs}
 use Rattle.script.proofs.arguments.take_size.Statement.{statement}

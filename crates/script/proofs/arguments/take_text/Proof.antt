@@ -1,10 +1,9 @@
 -- `take_text`: the bytes stand at the start of the buffer. Assumes nothing.
 use native.Mathlib.Omega.{arith}
-use mathlib.Core.Path.{_≡_, refl, sym, _∙_, ap}
+use mathlib.Core.Path.{sym, _∙_, ap}
 use denote.Ref.{now}
-use Prim.Native.Nat.{ℕ}
 use lib.ListN.{take}
-use borrow.Author.Tests.{not-true, not-false, eq-eqb, ne-eqb}
+use borrow.Author.Tests.{not-true, not-false}
 use Rattle.script.specs.declared.Args.{Args}
 use Rattle.script.specs.Commands.{withLen}
 use Rattle.script.proofs.Hex.{bytesOf-length}

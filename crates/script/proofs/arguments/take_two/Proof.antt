@@ -1,6 +1,6 @@
 -- `take_two`: a word and the next. Assumes nothing.
 use native.Mathlib.Omega.{arith}
-use mathlib.Core.Path.{_≡_, refl, sym, _∙_, ap}
+use mathlib.Core.Path.{ap}
 use denote.Ref.{now}
 use lib.ListN.{length}
 use Rattle.script.proofs.Lines.{firstWord-length, afterWord-length}

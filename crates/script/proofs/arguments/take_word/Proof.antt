@@ -1,5 +1,5 @@
 -- `take_word`: a function for each sort. Assumes nothing.
-use mathlib.Core.Path.{_≡_, refl, sym, _∙_, ap}
+use mathlib.Core.Path.{refl, sym, _∙_, ap}
 use denote.Ref.{now}
 use lib.ListN.{take}
 use Rattle.script.specs.declared.Sort.{Sort}

@@ -1,6 +1,5 @@
 -- `put_digits`: the digits before the last, then the last. Assumes nothing.
-use mathlib.Core.Path.{_≡_, refl, sym, _∙_, ap}
-use denote.Ref.{now}
+use mathlib.Core.Path.{refl, sym}
 use native.Mathlib.Omega.{arith}
 use Rattle.script.proofs.Digits.{last-none, last-one, last-more, last-length}
 use Rattle.script.proofs.Places.{then-sets, same-sets}

@@ -1,14 +1,11 @@
 -- `put`: the first `i` bytes are stored. Assumes nothing.
-use Prim.Native.Nat.{ℕ}
+use Prim.Native.Nat.{ℕ, _+_, _≤_, _-_}
 use mathlib.Core.List.{List}
-use lib.ListN.{set, getD}
-use lib.ListN.{length-set}
+use lib.ListN.{set, getD, length-set, length, take}
 use denote.Ref.{now}
-use Prim.Native.Nat.{_+_, _≤_, _-_}
 use native.Mathlib.Omega.{arith}
-use mathlib.Core.Path.{_≡_, refl, sym, _∙_, ap}
-use lib.ListN.{length, take}
-use lib.Seq.{sets, length-sets, take-all}
+use mathlib.Core.Path.{_≡_, refl, _∙_, ap}
+use lib.Seq.{sets, take-all}
 use Rattle.script.proofs.Places.{sets-next}
 use borrow.Author.Needs.{needs}
 use Rattle.script.proofs.output.put.Statement.{statement}

@@ -1,23 +1,14 @@
 -- `put_hex`: the digits of the first `i` bytes are stored. Assumes nothing.
-use Prim.Native.Nat.{_<_}
-use mathlib.Core.List.{_++_}
-use Prim.Native.Nat.{_/_, _%_}
-use lib.ListN.{getD}
-use Rattle.script.specs.Strings.{hexDigit}
+use Prim.Native.Nat.{_<_, _/_, _%_, ℕ, _+_, _*_, _≤_, _-_}
+use mathlib.Core.List.{_++_, List, _∷_, []}
+use lib.ListN.{getD, length-set, length-take, set, length, take}
+use Rattle.script.specs.Strings.{hexDigit, toHex}
 use Rattle.script.proofs.Places.{sets-two}
-use Prim.Native.Nat.{ℕ}
-use mathlib.Core.List.{List, _∷_, []}
-use lib.ListN.{length-set, length-take}
-use lib.ListN.{set}
 use denote.Ref.{now}
 use Rattle.script.proofs.Hex.{toHex-next, toHex-length}
-use Prim.Native.Nat.{_+_, _*_, _≤_, _-_}
 use native.Mathlib.Omega.{arith}
 use mathlib.Core.Path.{_≡_, refl, sym, _∙_, ap}
-use lib.ListN.{length, take}
-use lib.Seq.{sets, length-sets, take-all}
-use Rattle.script.specs.Strings.{toHex}
-use Rattle.script.proofs.Places.{sets-next}
+use lib.Seq.{sets, take-all}
 use borrow.Author.Needs.{needs}
 use Rattle.script.proofs.output.put_hex.Statement.{statement}
 use Rattle.script.proofs.output.put_hex.Tie as tie

@@ -1,15 +1,9 @@
 -- `put_name`: `=` and the bytes, or the digits. Assumes nothing.
-use Prim.Native.Nat.{_+_}
-use mathlib.Core.List.{List, [], _∷_}
-use lib.ListN.{length}
-use lib.Seq.{sets}
-use Rattle.script.specs.Strings.{nameText}
+use mathlib.Core.List.{[], _∷_}
 use Rattle.script.proofs.Places.{then-sets, same-sets}
-use mathlib.Core.Path.{_≡_, refl, sym, _∙_, ap}
+use mathlib.Core.Path.{sym, _∙_}
 use denote.Ref.{now}
-use native.Mathlib.Omega.{arith}
 use Rattle.script.proofs.Hex.{name-plain, name-hex}
-use Rattle.script.proofs.Places.{then-sets}
 use borrow.Author.Needs.{needs}
 use Rattle.script.proofs.output.put_name.Statement.{statement}
 use Rattle.script.proofs.output.put_name.Tie as tie

@@ -1,6 +1,5 @@
 -- `is_within`: the two comparisons of the definition. Assumes nothing.
 use Rattle.lists.proofs.Predicates.{predicates}
-use borrow.Author.Needs.{needs}
 use Rattle.script.proofs.ranges.is_within.Statement.{statement}
 use Rattle.script.proofs.ranges.is_within.Tie as tie
 

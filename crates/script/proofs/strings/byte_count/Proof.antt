@@ -1,6 +1,6 @@
 -- `byte_count`: the bytes behind `=`, or a byte for two digits. Assumes nothing.
 use native.Mathlib.Omega.{arith}
-use mathlib.Core.Path.{_≡_, refl, sym, _∙_, ap}
+use mathlib.Core.Path.{sym, _∙_}
 use Rattle.script.proofs.Hex.{quoted-some, quoted-count, hex-count}
 use denote.Ref.{now}
 use borrow.Author.Needs.{needs}

@@ -1,10 +1,8 @@
 -- `hex_value`: the cases of the definition. Assumes nothing.
 use native.Mathlib.Omega.{arith}
-use mathlib.Core.Path.{_≡_, refl, sym, _∙_, ap}
+use mathlib.Core.Path.{sym, _∙_}
 use Rattle.script.proofs.Picks.{within-low, within-high}
 use Rattle.script.proofs.Hex.{value-digit, value-small, value-large, value-none}
-use Rattle.script.proofs.Picks.{picks}
-use Rattle.script.specs.Strings.{hexValue}
 use borrow.Author.Needs.{needs}
 use Rattle.script.proofs.strings.hex_value.Statement.{statement}
 use Rattle.script.proofs.strings.hex_value.Tie as tie

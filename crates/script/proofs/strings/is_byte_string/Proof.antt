@@ -1,8 +1,7 @@
 -- `is_byte_string`: the tests of the definition, one after the other. Assumes nothing.
 use Rattle.script.proofs.Picks.{joins}
-use Rattle.lists.proofs.Predicates.{no-stop, no-go, not-of-true, not-of-false}
+use Rattle.lists.proofs.Predicates.{not-of-true, not-of-false}
 use borrow.Author.Tests.{eq-eqb, ne-eqb}
-use Rattle.lists.proofs.Predicates.{predicates}
 use Rattle.script.specs.Strings.{isByteString}
 use borrow.Author.Needs.{needs}
 use Rattle.script.proofs.strings.is_byte_string.Statement.{statement}

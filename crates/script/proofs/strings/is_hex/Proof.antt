@@ -1,14 +1,11 @@
 -- `is_hex`: every byte before `i` passes the test. Assumes nothing.
-use denote.Ref.{now}
-use Prim.Native.Nat.{_≤_, _-_}
+use Prim.Native.Nat.{_≤_, _-_, ℕ}
 use native.Mathlib.Omega.{arith}
 use lib.ListN.{length}
-use mathlib.Core.Path.{sym, _∙_}
+use mathlib.Core.Path.{sym, _∙_, ap}
 use Rattle.lists.proofs.Loops.{Scanned, miss, scanned-none}
-use mathlib.Core.Path.{ap}
 use mathlib.Core.Bool.{not}
 use Rattle.script.proofs.Picks.{all-stop, all-pass}
-use Prim.Native.Nat.{ℕ}
 use Rattle.script.specs.Strings.{isHexDigit, isHex}
 use borrow.Author.Needs.{needs}
 use Rattle.script.proofs.strings.is_hex.Statement.{statement}

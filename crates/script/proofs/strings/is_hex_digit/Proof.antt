@@ -1,6 +1,5 @@
 -- `is_hex_digit`: the three tests of the definition. Assumes nothing.
 use Rattle.script.proofs.Picks.{joins}
-use Rattle.lists.proofs.Predicates.{predicates}
 use borrow.Author.Needs.{needs}
 use Rattle.script.proofs.strings.is_hex_digit.Statement.{statement}
 use Rattle.script.proofs.strings.is_hex_digit.Tie as tie

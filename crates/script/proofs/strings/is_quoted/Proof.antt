@@ -1,8 +1,6 @@
 -- `is_quoted`: an empty word begins with nothing. Assumes nothing.
 use denote.Ref.{now}
-use mathlib.Core.Path.{_≡_, refl, sym, _∙_, ap}
 use Rattle.script.proofs.Hex.{not-quoted}
-use native.Mathlib.Omega.{arith}
 use borrow.Author.Needs.{needs}
 use Rattle.script.proofs.strings.is_quoted.Statement.{statement}
 use Rattle.script.proofs.strings.is_quoted.Tie as tie

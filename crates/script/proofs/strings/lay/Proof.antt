@@ -1,14 +1,11 @@
 -- `lay`: the bytes behind `=`, or those of the digits. Assumes nothing.
-use Prim.Native.Nat.{_≤_}
-use lib.ListN.{length}
-use Rattle.script.specs.Strings.{bytesOf}
+use lib.ListN.{length, length-take, length-drop}
 use native.Mathlib.Omega.{arith}
-use mathlib.Core.Path.{_≡_, refl, sym, _∙_, ap}
-use lib.ListN.{length-take, length-drop}
+use mathlib.Core.Path.{sym, _∙_, ap}
 use denote.Ref.{now}
 use borrow.Rule.Slice.PartAt.{part-to-end}
 use Rattle.lists.specs.Bytes.{laidOver}
-use Rattle.script.proofs.Hex.{quoted-some, quoted-count, quoted-bytes, hex-count, hex-bytes}
+use Rattle.script.proofs.Hex.{quoted-some, quoted-count, quoted-bytes, hex-bytes}
 use borrow.Author.Needs.{needs}
 use Rattle.script.proofs.strings.lay.Statement.{statement}
 use Rattle.script.proofs.strings.lay.Tie as tie

@@ -1,7 +1,7 @@
 -- `lay_bytes`: the first `i` bytes are laid. Assumes nothing.
 use Prim.Native.Nat.{_≤_, _-_}
 use native.Mathlib.Omega.{arith}
-use mathlib.Core.Path.{_≡_, refl, sym, _∙_, ap}
+use mathlib.Core.Path.{_≡_, refl}
 use lib.ListN.{length, length-set}
 use Rattle.lists.proofs.Loops.{laid, laid-more, laid-all}
 use borrow.Author.Needs.{needs}

@@ -1,10 +1,9 @@
 -- `first_ink`: every byte before `i` is a blank. Assumes nothing.
-use mathlib.Core.Path.{ap}
+use mathlib.Core.Path.{ap, sym, _∙_}
 use mathlib.Core.Bool.{not}
 use Prim.Native.Nat.{_≤_, _-_}
 use native.Mathlib.Omega.{arith}
 use lib.ListN.{length}
-use mathlib.Core.Path.{sym, _∙_}
 use Rattle.lists.proofs.Loops.{Scanned, hit, miss, scanned-none, scanned-all}
 use Rattle.script.specs.Words.{isInk}
 use borrow.Author.Needs.{needs}

@@ -1,8 +1,7 @@
 -- `first_word`: a part of the trimmed line, up to its first blank. Assumes nothing.
 use native.Mathlib.Omega.{arith}
-use mathlib.Core.Path.{_≡_, refl, sym, _∙_, ap}
+use mathlib.Core.Path.{sym, _∙_, ap}
 use Prim.Native.Nat.{ℕ}
-use mathlib.Core.List.{List}
 use denote.Ref.{now}
 use Rattle.lists.proofs.Tables.{firstAt-le}
 use Rattle.lists.specs.Bytes.{Bytes, firstAt}

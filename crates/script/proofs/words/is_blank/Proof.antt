@@ -1,6 +1,5 @@
 -- `is_blank`: the two tests of the definition, one after the other. Assumes nothing.
 use Rattle.lists.proofs.Predicates.{predicates}
-use borrow.Author.Needs.{needs}
 use Rattle.script.proofs.words.is_blank.Statement.{statement}
 use Rattle.script.proofs.words.is_blank.Tie as tie
 

@@ -1,7 +1,7 @@
 -- `trim`: a part to the end. Assumes nothing.
 use Prim.Native.Nat.{ℕ}
 use native.Mathlib.Omega.{arith}
-use mathlib.Core.Path.{_≡_, refl, sym, _∙_, ap}
+use mathlib.Core.Path.{_∙_, ap}
 use lib.ListN.{drop}
 use denote.Ref.{now}
 use borrow.Rule.Slice.PartAt.{part-to-end}

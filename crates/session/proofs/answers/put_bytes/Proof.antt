@@ -6,8 +6,8 @@ use Rattle.script.proofs.Hex.{toHex-length}
 use denote.Ref.{now}
 use Rattle.script.specs.Text.{text}
 use Rattle.script.specs.Strings.{toHex}
-use Rattle.script.proofs.Places.{then-sets, same-sets}
-use Rattle.session.proofs.Saying.{begun}
+use Rattle.script.proofs.Places.{then-sets}
+use Rattle.session.proofs.Texts.{begun}
 use borrow.Author.Needs.{needs}
 use Rattle.session.proofs.answers.put_bytes.Statement.{statement}
 use Rattle.session.proofs.answers.put_bytes.Tie as tie

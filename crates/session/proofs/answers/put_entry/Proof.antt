@@ -1,11 +1,11 @@
 -- `put_entry`: the number, or the refusal. Assumes nothing.
-use mathlib.Core.Path.{_≡_, refl, sym, _∙_, ap}
+use mathlib.Core.Path.{sym, ap}
 use mathlib.Core.Bool.{false}
 use mathlib.Core.List.{[]}
 use Rattle.volume.specs.Request.{entryAnswered}
 use Rattle.volume.specs.declared.EntryAnswer.{EntryAnswer}
 use Rattle.session.specs.Answers.{answerText}
-use Rattle.session.proofs.Saying.{rewritten}
+use Rattle.session.proofs.Texts.{rewritten}
 use borrow.Author.Needs.{needs}
 use Rattle.session.proofs.answers.put_entry.Statement.{statement}
 use Rattle.session.proofs.answers.put_entry.Tie as tie

@@ -1,10 +1,10 @@
 -- `put_form`: a word for each form. Assumes nothing.
-use mathlib.Core.Path.{_≡_, refl, sym, _∙_, ap}
+use mathlib.Core.Path.{sym, ap}
 use denote.Ref.{now}
 use Rattle.script.specs.Text.{text}
 use Rattle.volume.specs.declared.Form.{Form}
 use Rattle.session.specs.Answers.{formName}
-use Rattle.script.proofs.Places.{then-sets, same-sets}
+use Rattle.script.proofs.Places.{same-sets}
 use borrow.Author.Needs.{needs}
 use Rattle.session.proofs.answers.put_form.Statement.{statement}
 use Rattle.session.proofs.answers.put_form.Tie as tie

@@ -1,14 +1,14 @@
 -- `put_head`: `ok` and three numbers. Assumes nothing.
 use native.Mathlib.Omega.{arith}
-use mathlib.Core.Path.{_≡_, refl, sym, _∙_, ap}
+use mathlib.Core.Path.{ap}
 use lib.ListN.{length-append}
 use denote.Ref.{now}
 use Prim.Native.Nat.{ℕ}
 use mathlib.Core.List.{_++_}
 use Rattle.script.specs.Text.{text}
 use Rattle.session.specs.Answers.{field}
-use Rattle.script.proofs.Places.{then-sets, same-sets}
-use Rattle.session.proofs.Saying.{begun, rewritten, field-length}
+use Rattle.script.proofs.Places.{then-sets}
+use Rattle.session.proofs.Texts.{begun, rewritten, field-length}
 use borrow.Author.Needs.{needs}
 use Rattle.session.proofs.answers.put_head.Statement.{statement}
 use Rattle.session.proofs.answers.put_head.Tie as tie

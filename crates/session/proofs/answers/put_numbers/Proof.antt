@@ -5,9 +5,9 @@ use denote.Ref.{now}
 use Rattle.script.specs.Text.{text}
 use Rattle.script.specs.Numbers.{decimal}
 use mathlib.Core.List.{_++_}
-use Rattle.script.proofs.Places.{then-sets, same-sets}
+use Rattle.script.proofs.Places.{then-sets}
 use Rattle.script.proofs.Digits.{decimal-length}
-use Rattle.session.proofs.Saying.{begun}
+use Rattle.session.proofs.Texts.{begun}
 use borrow.Author.Needs.{needs}
 use Rattle.session.proofs.answers.put_numbers.Statement.{statement}
 use Rattle.session.proofs.answers.put_numbers.Tie as tie

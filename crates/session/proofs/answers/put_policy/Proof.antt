@@ -1,11 +1,11 @@
 -- `put_policy`: the bytes, or the refusal. Assumes nothing.
-use mathlib.Core.Path.{_≡_, refl, sym, _∙_, ap}
+use mathlib.Core.Path.{sym, ap}
 use mathlib.Core.Bool.{false}
 use mathlib.Core.List.{[]}
 use Rattle.volume.specs.Request.{policyAnswered}
 use Rattle.volume.specs.declared.Reply.{Reply}
 use Rattle.session.specs.Answers.{answerText}
-use Rattle.session.proofs.Saying.{rewritten}
+use Rattle.session.proofs.Texts.{rewritten}
 use borrow.Author.Needs.{needs}
 use Rattle.session.proofs.answers.put_policy.Statement.{statement}
 use Rattle.session.proofs.answers.put_policy.Tie as tie

@@ -1,7 +1,7 @@
 -- `put_refusal`: a text for each refusal. Assumes nothing.
 use denote.Ref.{now}
 use Rattle.errno.specs.declared.Errno.the-variants.{EPERM, ENOENT, EEXIST, ENOTDIR, EINVAL, ENOSPC, ERANGE, ENAMETOOLONG, ENOTEMPTY, ENODATA, ENOTUNIQ, EUCLEAN, ENOKEY}
-use Rattle.session.proofs.Saying.{wrote-error}
+use Rattle.session.proofs.Texts.{wrote-error}
 use borrow.Author.Needs.{needs}
 use Rattle.session.proofs.answers.put_refusal.Statement.{statement}
 use Rattle.session.proofs.answers.put_refusal.Tie as tie

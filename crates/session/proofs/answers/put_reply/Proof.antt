@@ -1,15 +1,14 @@
 -- `put_reply`: `ok`, or the refusal. Assumes nothing.
-use mathlib.Core.Path.{_≡_, refl, sym, _∙_, ap}
+use mathlib.Core.Path.{sym, ap}
 use native.Mathlib.Omega.{arith}
 use denote.Ref.{now}
 use mathlib.Core.Bool.{false}
 use mathlib.Core.List.{[]}
-use Rattle.errno.specs.Refusals.{number}
 use Rattle.volume.specs.Request.{replied}
 use Rattle.volume.specs.declared.Reply.{Reply}
 use Rattle.script.specs.Text.{text}
-use Rattle.session.specs.Answers.{errorText, answerText}
-use Rattle.session.proofs.Saying.{begun, rewritten}
+use Rattle.session.specs.Answers.{answerText}
+use Rattle.session.proofs.Texts.{begun, rewritten}
 use borrow.Author.Needs.{needs}
 use Rattle.session.proofs.answers.put_reply.Statement.{statement}
 use Rattle.session.proofs.answers.put_reply.Tie as tie

@@ -1,11 +1,11 @@
 -- `put_shown`: the entry, or the refusal. Assumes nothing.
-use mathlib.Core.Path.{_≡_, refl, sym, _∙_, ap}
+use mathlib.Core.Path.{sym, ap}
 use denote.Ref.{now}
 use mathlib.Core.Bool.{false}
 use Rattle.volume.specs.Request.{showAnswered}
 use Rattle.volume.specs.declared.ShowAnswer.{ShowAnswer}
 use Rattle.session.specs.Answers.{answerText}
-use Rattle.session.proofs.Saying.{rewritten}
+use Rattle.session.proofs.Texts.{rewritten}
 use borrow.Author.Needs.{needs}
 use Rattle.session.proofs.answers.put_shown.Statement.{statement}
 use Rattle.session.proofs.answers.put_shown.Tie as tie

@@ -1,14 +1,13 @@
 -- `put_shown_entry`: the head and the tail. Assumes nothing.
-use mathlib.Core.List.{List}
+use mathlib.Core.List.{List, _++_}
 use native.Mathlib.Omega.{arith}
-use mathlib.Core.Path.{_≡_, refl, sym, _∙_, ap}
+use mathlib.Core.Path.{sym, _∙_, ap}
 use denote.Ref.{now}
 use Prim.Native.Nat.{ℕ, min}
-use mathlib.Core.List.{_++_}
 use lib.ListN.{length, take, length-take, length-append}
 use lib.Seq.{length-take-le}
 use Rattle.session.specs.Answers.{shownHead, shownTail, shownText}
-use Rattle.session.proofs.Saying.{then-written, rewritten, take-least, head-length, tail-length}
+use Rattle.session.proofs.Texts.{then-written, rewritten, take-least, head-length, tail-length}
 use borrow.Author.Needs.{needs}
 use Rattle.session.proofs.answers.put_shown_entry.Statement.{statement}
 use Rattle.session.proofs.answers.put_shown_entry.Tie as tie

@@ -1,6 +1,6 @@
 -- `put_tail`: the form, a number and the name. Assumes nothing.
 use native.Mathlib.Omega.{arith}
-use mathlib.Core.Path.{_≡_, refl, sym, _∙_, ap}
+use mathlib.Core.Path.{ap}
 use denote.Ref.{now}
 use Prim.Native.Nat.{ℕ}
 use mathlib.Core.List.{_++_}
@@ -8,7 +8,7 @@ use Rattle.script.specs.Text.{text}
 use Rattle.script.specs.Strings.{nameText}
 use Rattle.session.specs.Answers.{formName, field}
 use Rattle.script.proofs.Places.{then-sets, same-sets}
-use Rattle.session.proofs.Saying.{field-length, form-length}
+use Rattle.session.proofs.Texts.{field-length, form-length}
 use borrow.Author.Needs.{needs}
 use Rattle.session.proofs.answers.put_tail.Statement.{statement}
 use Rattle.session.proofs.answers.put_tail.Tie as tie

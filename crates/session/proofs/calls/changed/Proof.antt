@@ -1,5 +1,5 @@
 -- `changed`: the volume, and the reply as text. Assumes nothing.
-use mathlib.Core.Path.{_≡_, refl, sym, _∙_, ap}
+use mathlib.Core.Path.{refl}
 use borrow.Author.Needs.{needs}
 use Rattle.session.proofs.calls.changed.Statement.{statement}
 use Rattle.session.proofs.calls.changed.Tie as tie

@@ -1,7 +1,7 @@
 -- `create`: the request, and its answer. Assumes nothing.
-use mathlib.Core.Path.{_≡_, refl, sym, _∙_, ap}
+use mathlib.Core.Path.{refl}
 use denote.Ref.{now}
-use mathlib.Core.Bool.{true, false}
+use mathlib.Core.Bool.{false}
 use mathlib.Core.List.{[]}
 use Rattle.session.specs.Lines.{respond}
 use Rattle.volume.specs.Request.{createAnswered}

@@ -1,8 +1,7 @@
 -- `open`: the request, and its answer. Assumes nothing.
-use mathlib.Core.Path.{_≡_, refl, sym, _∙_, ap}
+use mathlib.Core.Path.{refl}
 use denote.Ref.{now}
-use mathlib.Core.Bool.{true, false}
-use mathlib.Core.List.{[]}
+use mathlib.Core.Bool.{true}
 use Rattle.session.specs.Lines.{respond}
 use Rattle.volume.specs.Request.{replied}
 use Rattle.session.proofs.Saying.{says}

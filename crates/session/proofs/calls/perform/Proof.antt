@@ -1,5 +1,4 @@
 -- `perform`: a function for each request. Assumes nothing.
-use mathlib.Core.Path.{_≡_, refl, sym, _∙_, ap}
 use denote.Ref.{now}
 use Rattle.session.proofs.Saying.{same-said, made-of}
 use Rattle.session.specs.Lines.{respond}

@@ -1,8 +1,5 @@
 -- `show`: a buffer of at most 4,096 bytes. Assumes nothing.
-use mathlib.Core.Path.{_≡_, refl, sym, _∙_, ap}
 use denote.Ref.{now}
-use borrow.Author.Tests.{le-leb, lt-leb}
-use Rattle.session.specs.Lines.{respond}
 use Rattle.session.proofs.Saying.{same-said, shows, shows-not}
 use borrow.Author.Needs.{needs}
 use Rattle.session.proofs.calls.show.Statement.{statement}

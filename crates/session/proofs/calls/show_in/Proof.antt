@@ -1,5 +1,5 @@
 -- `show_in`: the request, and its answer. Assumes nothing.
-use mathlib.Core.Path.{_≡_, refl, sym, _∙_, ap}
+use mathlib.Core.Path.{refl}
 use denote.Ref.{now}
 use mathlib.Core.Bool.{false}
 use Rattle.volume.specs.Request.{showAnswered}

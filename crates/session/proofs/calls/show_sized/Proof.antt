@@ -1,11 +1,11 @@
 -- `show_sized`: a part of a buffer of zeros is one. Assumes nothing.
 use native.Mathlib.Omega.{arith}
-use mathlib.Core.Path.{_≡_, refl, sym, _∙_, ap}
+use mathlib.Core.Path.{sym, _∙_, ap}
 use denote.Ref.{now}
 use mathlib.Core.Bool.{false}
 use lib.ListN.{length, take}
 use lib.Seq.{length-take-le}
-use Rattle.lists.specs.Bytes.{Bytes, zeros}
+use Rattle.lists.specs.Bytes.{Bytes}
 use Rattle.fscrypt.specs.Cipher.{fscrypt}
 use Rattle.fscrypt.proofs.Padding.{length-zeros}
 use Rattle.volume.specs.Request.{show}

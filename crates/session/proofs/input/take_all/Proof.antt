@@ -1,6 +1,6 @@
 -- `take_all`: the buffers keep their lengths; the turns are counted down. Assumes nothing.
 use Prim.Native.Nat.{_+_, _*_, _≤_, _<_, _-_}
-use mathlib.Core.Path.{_≡_, refl}
+use mathlib.Core.Path.{_≡_}
 use lib.ListN.{length}
 use borrow.Author.Needs.{needs}
 use Rattle.session.proofs.input.take_all.Statement.{statement}

@@ -1,6 +1,6 @@
 -- `take_chunk`: the buffers keep their lengths, and each turn gets past a byte. Assumes nothing.
 use Prim.Native.Nat.{_+_, _*_, _≤_, _<_, _-_}
-use mathlib.Core.Path.{_≡_, refl}
+use mathlib.Core.Path.{_≡_}
 use lib.ListN.{length}
 use borrow.Author.Needs.{needs}
 use Rattle.session.proofs.input.take_chunk.Statement.{statement}

@@ -1,15 +1,12 @@
 -- `answer_line`: nothing, or the answer and a newline. Assumes nothing.
-use Rattle.session.proofs.Saying.{same-answer}
+use Rattle.session.proofs.Lines.{same-answer, withoutReturn-length, skips, answers, then-ended}
 use Rattle.session.specs.Answers.{saying}
 use native.Mathlib.Omega.{arith}
-use mathlib.Core.Path.{_≡_, refl, sym, _∙_, ap}
+use mathlib.Core.Path.{refl, sym, _∙_, ap}
 use denote.Ref.{now}
-use Prim.Native.Nat.{ℕ}
 use mathlib.Core.List.{[]}
 use lib.ListN.{length}
-use Rattle.script.specs.Text.{text}
 use Rattle.session.specs.Lines.{commanded}
-use Rattle.session.proofs.Saying.{same-said, withoutReturn-length, skips, answers, then-ended}
 use borrow.Author.Needs.{needs}
 use Rattle.session.proofs.lines.answer_line.Statement.{statement}
 use Rattle.session.proofs.lines.answer_line.Tie as tie

@@ -1,13 +1,13 @@
 -- `command`: the request's word, its words, the request. Assumes nothing.
 use native.Mathlib.Omega.{arith}
-use mathlib.Core.Path.{_≡_, refl, sym, _∙_, ap}
+use mathlib.Core.Path.{ap}
 use denote.Ref.{now}
-use Prim.Native.Nat.{ℕ}
 use lib.ListN.{length}
 use Rattle.script.specs.declared.Args.{Args}
 use Rattle.script.proofs.Lines.{afterWord-length}
 use Rattle.script.proofs.Taking.{readWords-len}
-use Rattle.session.proofs.Saying.{same-said, overlong, directs}
+use Rattle.session.proofs.Saying.{same-said}
+use Rattle.session.proofs.Lines.{overlong, directs}
 use borrow.Author.Needs.{needs}
 use Rattle.session.proofs.lines.command.Statement.{statement}
 use Rattle.session.proofs.lines.command.Tie as tie

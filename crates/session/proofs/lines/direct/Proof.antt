@@ -1,11 +1,12 @@
 -- `direct`: the request, or the word for none. Assumes nothing.
 use native.Mathlib.Omega.{arith}
-use mathlib.Core.Path.{_≡_, refl, sym, _∙_, ap}
+use mathlib.Core.Path.{sym}
 use denote.Ref.{now}
-use lib.ListN.{length, take, length-take}
+use lib.ListN.{length-take}
 use lib.Seq.{length-take-le}
 use borrow.Author.Tests.{not-true, not-false}
-use Rattle.session.proofs.Saying.{same-said, directs-not, directs-to}
+use Rattle.session.proofs.Saying.{same-said}
+use Rattle.session.proofs.Lines.{directs-not, directs-to}
 use borrow.Author.Needs.{needs}
 use Rattle.session.proofs.lines.direct.Statement.{statement}
 use Rattle.session.proofs.lines.direct.Tie as tie

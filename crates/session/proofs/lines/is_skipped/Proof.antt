@@ -1,7 +1,5 @@
 -- `is_skipped`: no word, or a comment. Assumes nothing.
-use mathlib.Core.Path.{_≡_, refl, sym, _∙_, ap}
-use denote.Ref.{now}
-use Rattle.session.proofs.Saying.{skipped-none, skipped-first}
+use Rattle.session.proofs.Lines.{skipped-none, skipped-first}
 use borrow.Author.Needs.{needs}
 use Rattle.session.proofs.lines.is_skipped.Statement.{statement}
 use Rattle.session.proofs.lines.is_skipped.Tie as tie

@@ -1,0 +1,102 @@
+-- A line and its answer: the tests of the definitions, in the order of the code.
+-- Assumes nothing.
+use Prim.Native.Nat.{ℕ, _+_, _-_, _≤_, _<_}
+use native.Mathlib.Omega.{arith}
+use mathlib.Core.Path.{_≡_, refl, sym, _∙_, ap}
+use mathlib.Core.Bool.{Bool, true, false, cond}
+use mathlib.Core.List.{[], _∷_}
+use lib.ListN.{length, take, getD, length-append, length-take}
+use lib.Seq.{sets, length-sets}
+use lib.Dec.{eqb}
+use borrow.Author.Tests.{lt-ltb, le-ltb, eq-eqb, ne-eqb}
+use Rattle.lists.proofs.Predicates.{or-stop, or-go}
+use Rattle.lists.specs.Bytes.{Bytes}
+use Rattle.script.specs.Words.{firstWord, afterWord}
+use Rattle.script.specs.Commands.{verbOf, shapeOf, readWords}
+use Rattle.script.specs.declared.Shape.{Shape}
+use Rattle.script.specs.declared.Args.{Args}
+use Rattle.script.specs.declared.Verb.{Verb}
+use Rattle.volume.specs.declared.Volume.{Volume}
+use Rattle.script.proofs.Places.{then-sets, sets-start}
+use Rattle.script.specs.Text.{text}
+use Rattle.session.specs.Answers.{Written, Said, saying, malformed}
+use Rattle.session.specs.Lines.{respond, withoutReturn, isSkipped, directed, commanded, ended, answered}
+
+module _ (l : Bytes) where
+  pub no-return-none : length l ≡ 0 → l ≡ withoutReturn l
+  unfolding withoutReturn
+  no-return-none h = go l h
+    where
+      go : (l : Bytes) → length l ≡ 0 → l ≡ withoutReturn l
+      go [] h = refl
+      go (x ∷ s) h = absurd (omega arith)
+
+  pub return-gone : getD l (length l - 1) 0 ≡ 13 → take (length l - 1) l ≡ withoutReturn l
+  unfolding withoutReturn
+  return-gone h = rw (eq-eqb _ _ h)
+
+  pub no-return : (getD l (length l - 1) 0 ≡ 13 → ⊥) → l ≡ withoutReturn l
+  unfolding withoutReturn
+  no-return h = rw (ne-eqb _ _ h)
+
+pub withoutReturn-length : (l : Bytes) → length (withoutReturn l) ≤ length l
+unfolding withoutReturn
+withoutReturn-length l = go (eqb (getD l (length l - 1) 0) 13)
+  where
+    go : (t : Bool) → length (cond t (take (length l - 1) l) l) ≤ length l
+    go true = omega (arith, length-take (length l - 1) l)
+    go false = omega arith
+
+module _ (l w : Bytes) (e : w ≡ firstWord l) where
+  pub skipped-none : length w ≡ 0 → true ≡ isSkipped l
+  unfolding isSkipped
+  skipped-none h = or-stop _ _ (eq-eqb _ _ (sym (ap length e) ∙ h))
+
+  pub skipped-first : (length w ≡ 0 → ⊥) → eqb (getD w 0 0) 35 ≡ isSkipped l
+  unfolding isSkipped
+  skipped-first h = or-go _ _ _ (ne-eqb _ _ (λ k. h (ap length e ∙ k))) (ap (λ (x : Bytes). eqb (getD x 0 0) 35) e)
+
+-- the lines of `commanded`
+module _ (v : Volume) (l : Bytes) where
+  pub overlong : 131072 < length l → malformed v ≡ commanded v l
+  unfolding commanded
+  overlong h = rw (lt-ltb _ _ h)
+
+  pub directs : length l ≤ 131072 → (w r t : Bytes) (verb : Verb) (s : Shape) (a : Args) → w ≡ firstWord l → verb ≡ verbOf w → s ≡ shapeOf verb → r ≡ afterWord l → a ≡ readWords s r .args → t ≡ readWords s r .bytes → directed v verb a t ≡ commanded v l
+  unfolding commanded
+  directs h w r t verb s a e f g i j k = rw (le-ltb _ _ h) (go w r verb s a t e f g i j k)
+    where
+      go : (w r : Bytes) (verb : Verb) (s : Shape) (a : Args) (t : Bytes) → w ≡ firstWord l → verb ≡ verbOf w → s ≡ shapeOf verb → r ≡ afterWord l → a ≡ readWords s r .args → t ≡ readWords s r .bytes
+          → directed v verb a t ≡ directed v (verbOf (firstWord l)) (readWords (shapeOf (verbOf (firstWord l))) (afterWord l) .args) (readWords (shapeOf (verbOf (firstWord l))) (afterWord l) .bytes)
+      go w r verb s a t e f g i j k = cc
+
+-- the lines of `answered`
+module _ (v : Volume) (line l : Bytes) (e : l ≡ withoutReturn line) where
+  pub skips : isSkipped l ≡ true → saying [] v ≡ answered v line
+  unfolding answered
+  skips h = let k : isSkipped (withoutReturn line) ≡ true = sym (ap isSkipped e) ∙ h in rw k
+
+  pub answers : isSkipped l ≡ false → ended (commanded v l) ≡ answered v line
+  unfolding answered
+  answers h = let k : isSkipped (withoutReturn line) ≡ false = sym (ap isSkipped e) ∙ h in rw k (ap (λ (x : Bytes). ended (commanded v x)) e)
+
+module _ (v : Volume) (verb : Verb) (a : Args) (t : Bytes) where
+  pub directs-to : a .good ≡ true → respond v verb a t ≡ directed v verb a t
+  directs-to e = sym (ap (λ (g : Bool). cond g (respond v verb a t) (malformed v)) e)
+
+  pub directs-not : a .good ≡ false → malformed v ≡ directed v verb a t
+  directs-not e = sym (ap (λ (g : Bool). cond g (respond v verb a t) (malformed v)) e)
+
+-- a newline after what is said
+pub then-ended : (b c d : Bytes) (m n : ℕ) (w : Volume) (s : Said) → (w ≡ s .volume) × Written b c m (s .said) → (n ≡ m + length (text "\n")) × (d ≡ sets c m (text "\n")) → (w ≡ ended s .volume) × (take n d ≡ ended s .said) × (n ≤ length d)
+then-ended b c d m n w s h k =
+    let t = ended s .said in
+    let r = then-sets b c d 0 m n (s .said) (text "\n") (omega (arith, h .1 .0)) (h .1 .1) (k .0) (k .1) in
+    let l = length-append (s .said) (text "\n") in
+    let e : n ≡ length t = omega (arith, r .0) in
+    let f : length t ≤ length b = omega (arith, h .1 .2) in
+    let g = ap length (r .1) ∙ length-sets b 0 t in
+    (h .0, ap (λ (i : ℕ). take i d) e ∙ ap (take (length t)) (r .1) ∙ sets-start b t f, omega arith)
+
+pub same-answer : (d : Bytes) (n : ℕ) (w : Volume) (s t : Said) → (w ≡ s .volume) × (take n d ≡ s .said) × (n ≤ length d) → s ≡ t → (w ≡ t .volume) × (take n d ≡ t .said) × (n ≤ length d)
+same-answer d n w s t h e = (h .0 ∙ ap (λ (x : Said). x .volume) e, h .1 ∙ ap (λ (x : Said). x .said) e, h .2)
