@@ -1,4 +1,4 @@
 -- The laws of session.
 pub mod Texts
 pub mod Saying
-pub mod Lines
+pub mod Answering

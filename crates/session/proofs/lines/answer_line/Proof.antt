@@ -1,5 +1,5 @@
 -- `answer_line`: nothing, or the answer and a newline. Assumes nothing.
-use Rattle.session.proofs.Lines.{same-answer, withoutReturn-length, skips, answers, then-ended}
+use Rattle.session.proofs.Answering.{same-answer, withoutReturn-length, skips, answers, then-ended}
 use Rattle.session.specs.Answers.{saying}
 use native.Mathlib.Omega.{arith}
 use mathlib.Core.Path.{refl, sym, _∙_, ap}

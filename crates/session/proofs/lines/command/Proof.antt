@@ -7,7 +7,7 @@ use Rattle.script.specs.declared.Args.{Args}
 use Rattle.script.proofs.Lines.{afterWord-length}
 use Rattle.script.proofs.Taking.{readWords-len}
 use Rattle.session.proofs.Saying.{same-said}
-use Rattle.session.proofs.Lines.{overlong, directs}
+use Rattle.session.proofs.Answering.{overlong, directs}
 use borrow.Author.Needs.{needs}
 use Rattle.session.proofs.lines.command.Statement.{statement}
 use Rattle.session.proofs.lines.command.Tie as tie

@@ -6,7 +6,7 @@ use lib.ListN.{length-take}
 use lib.Seq.{length-take-le}
 use borrow.Author.Tests.{not-true, not-false}
 use Rattle.session.proofs.Saying.{same-said}
-use Rattle.session.proofs.Lines.{directs-not, directs-to}
+use Rattle.session.proofs.Answering.{directs-not, directs-to}
 use borrow.Author.Needs.{needs}
 use Rattle.session.proofs.lines.direct.Statement.{statement}
 use Rattle.session.proofs.lines.direct.Tie as tie

@@ -1,5 +1,5 @@
 -- `is_skipped`: no word, or a comment. Assumes nothing.
-use Rattle.session.proofs.Lines.{skipped-none, skipped-first}
+use Rattle.session.proofs.Answering.{skipped-none, skipped-first}
 use borrow.Author.Needs.{needs}
 use Rattle.session.proofs.lines.is_skipped.Statement.{statement}
 use Rattle.session.proofs.lines.is_skipped.Tie as tie

@@ -3,7 +3,7 @@ use native.Mathlib.Omega.{arith}
 use mathlib.Core.Path.{sym}
 use denote.Ref.{now}
 use lib.Seq.{length-take-le}
-use Rattle.session.proofs.Lines.{no-return-none, return-gone, no-return}
+use Rattle.session.proofs.Answering.{no-return-none, return-gone, no-return}
 use borrow.Author.Needs.{needs}
 use Rattle.session.proofs.lines.without_return.Statement.{statement}
 use Rattle.session.proofs.lines.without_return.Tie as tie
