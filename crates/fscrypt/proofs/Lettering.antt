@@ -48,7 +48,7 @@ letters-drop (a ∷ []) (suc q) = refl
 letters-drop (a ∷ b ∷ []) (suc q) = refl
 letters-drop (a ∷ b ∷ c ∷ rest) (suc q) = letters-drop rest q
 
-first-0 : (t : Bytes) → 0 < length (letters t) → getD (letters t) 0 0 ≡ letter (getD t 0 0 / 4)
+pub first-0 : (t : Bytes) → 0 < length (letters t) → getD (letters t) 0 0 ≡ letter (getD t 0 0 / 4)
 unfolding letters
 first-0 [] h = absurd (omega arith)
 first-0 (a ∷ []) h = refl

@@ -3,5 +3,6 @@ pub mod Lawfulness
 pub mod Padding
 pub mod Shape
 pub mod Shown
+pub mod Distinct
 mod Packing
 mod Lettering

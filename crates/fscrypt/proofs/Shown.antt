@@ -135,7 +135,7 @@ encoded-bytes s e h i = elim (decLt i (length (encoded s e))) [
 
 -- ---- what does not depend on the stored bytes
 
-long-mark : (s : Bytes) (e k : ℕ) → 160 < length s → getD (encoded s e) (215 + k) 0 ≡ getD (marks e) k 0
+pub long-mark : (s : Bytes) (e k : ℕ) → 160 < length s → getD (encoded s e) (215 + k) 0 ≡ getD (marks e) k 0
 long-mark s e k h =
     let n : 215 + k ≡ suc (length (letters (take 160 s)) + k) = omega (arith, length-front s h) in
     ap₂ (λ (l : Bytes) (i : ℕ). getD l i 0) (encoded-long s e h) n ∙ getD-append-add (letters (take 160 s)) (marks e) k 0

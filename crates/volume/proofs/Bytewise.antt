@@ -33,13 +33,13 @@ bytes-take (suc n) [] h i = h i
 bytes-take (suc n) (x ∷ xs) h zero = h 0
 bytes-take (suc n) (x ∷ xs) h (suc i) = bytes-take n xs (λ j. h (suc j)) i
 
-bytes-zeros : (n : ℕ) → ByteList (zeros n)
+pub bytes-zeros : (n : ℕ) → ByteList (zeros n)
 unfolding zeros
 bytes-zeros zero i = omega arith
 bytes-zeros (suc n) zero = omega arith
 bytes-zeros (suc n) (suc i) = bytes-zeros n i
 
-bytes-append : (x y : Bytes) → ByteList x → ByteList y → ByteList (x ++ y)
+pub bytes-append : (x y : Bytes) → ByteList x → ByteList y → ByteList (x ++ y)
 bytes-append [] y h k i = k i
 bytes-append (a ∷ x) y h k zero = h 0
 bytes-append (a ∷ x) y h k (suc i) = bytes-append x y (λ j. h (suc j)) k i
@@ -60,7 +60,7 @@ set-inode v w j node h = all-set (λ i x. NonceBytes x) (v .inodes) noInode j no
 
 -- ---- requests
 
-fresh-bytes : Bytewise fresh
+pub fresh-bytes : Bytewise fresh
 unfolding fresh
 fresh-bytes = record {
   keys = λ k. subst KeyBytes (sym (all-same keySlots k noKey)) (bytes-zeros 64);

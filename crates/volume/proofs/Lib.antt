@@ -18,6 +18,7 @@ pub mod Soundness
 pub mod PolicyClause
 pub mod Bytewise
 pub mod SealedOpens
+pub mod ShownApart
 -- the two runs
 mod Twin
 mod TwinLookup

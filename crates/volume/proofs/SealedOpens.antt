@@ -59,11 +59,11 @@ unfolding settle
 settled v b o k h = ap (λ (c : Checked). settle v b c o) h
 
 module _ (C : Cipher) (v : Volume) (r : Request) (a : Answer) (na : (m : ℕ) → refused m ≢ a) (h : (step C v r) .answer ≡ a) where
-  was-fine : check C v r ≡ Fine
+  pub was-fine : check C v r ≡ Fine
   unfolding step
   was-fine = passed-all v (lent r) (effect C v r) (check C v r) a na h
 
-  was-done : step C v r ≡ effect C v r
+  pub was-done : step C v r ≡ effect C v r
   unfolding step
   was-done = settled v (lent r) (effect C v r) (check C v r) was-fine
 
@@ -108,7 +108,7 @@ module _ (C : Cipher) (v w : Volume) (dir : Inode) (k : SameKey v w dir) where
 -- ---- blocks
 
 module _ (C : Cipher) (law : Lawful C) where
-  derived-bytes : (v : Volume) → Bytewise v → (node : Inode) → ByteList (node .context .nonce) → ByteList (derivedKey C v node)
+  pub derived-bytes : (v : Volume) → Bytewise v → (node : Inode) → ByteList (node .context .nonce) → ByteList (derivedKey C v node)
   unfolding derivedKey keyOf
   derived-bytes v w node hx =
       let d = descriptorOf node in

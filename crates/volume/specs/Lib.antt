@@ -8,5 +8,6 @@ pub mod Run
 pub mod Sound
 pub mod PolicyClause
 pub mod SealedOpens
+pub mod ShownApart
 pub mod TwoRuns
 pub mod Cases

@@ -1,0 +1,205 @@
+-- Names shown without the key keep source document 001's promise, on every sound volume whose names are bytes and on every volume of every run. Two entries of
+-- one directory have different numbers and different stored names, so that what is shown of them differs. Assumes nothing.
+use Prim.Native.Nat.{ℕ, _-_, _<_}
+use native.Mathlib.Omega.{arith}
+use mathlib.Core.Path.{_≡_, refl, sym, _∙_, ap, ap₂, subst}
+use mathlib.Core.Logic.{_≢_, _⊎_, inl, inr}
+use mathlib.Core.Bool.{Bool, true, false, cond}
+use mathlib.Core.List.{List, [], _∷_, List·Memᴰ, List·Memᴰ·not-nil, List·Memᴰ·cases-cons, List·Memᴰ·head, List·Memᴰ·tail}
+use lib.ListN.{length, getD, set, take}
+use lib.Seq.{take-append-seam}
+use Rattle.lists.specs.Bytes.{Bytes, ByteList, zeros}
+use Rattle.lists.proofs.Tables.{all-set}
+use Rattle.lists.proofs.Slots.{by-eq, by-cond, all-same}
+use Rattle.errno.specs.declared.Errno.the-variants.{ERANGE, ENOENT}
+use Rattle.errno.specs.declared.Checked.{Checked}
+use Rattle.errno.specs.declared.Checked.the-variants.{Fine, Refused}
+use Rattle.policy.specs.Policies.{nameKeySize}
+use Rattle.fscrypt.specs.Cipher.{Cipher, Lawful}
+use Rattle.fscrypt.specs.Names.{encrypted, nameBytes}
+use Rattle.fscrypt.specs.Encoded.{encoded}
+use Rattle.fscrypt.proofs.Padding.{padded-bytes}
+use Rattle.fscrypt.proofs.Shown.{encoded-length-low, encoded-length-high, encoded-fair}
+use Rattle.fscrypt.proofs.Distinct.{encoded-apart}
+use Rattle.volume.specs.Volume.{entrySlots, noEntry, entrySlot, nameOf, fresh}
+use Rattle.volume.specs.Request.{Request, addKey, removeKey, setPolicy, getPolicy, create, link, rename, exchange, remove, find, show, seal, unseal, refused, shown, Outcome}
+use Rattle.volume.specs.Lookup.{keyPresent, inodeAt, entryAt, freeInode, freeEntry}
+use Rattle.volume.specs.Checks.{derivedKey, nameKey, stored, readName, shownName, formIn, showCheck}
+use Rattle.volume.specs.Step.{withInode, lent, check, effect, settle, step}
+use Rattle.volume.specs.Run.{Moment, momentOf, runFrom, run}
+use Rattle.volume.specs.Sound.{Sound, Used, slotAt}
+use Rattle.volume.specs.TwoRuns.{Typed, AllTyped}
+use Rattle.volume.specs.SealedOpens.{Bytewise}
+use Rattle.volume.specs.ShownApart.{NamesBytewise, ShownKeyless, KeepsPromise}
+use Rattle.volume.specs.declared.InodeNumber.{InodeNumber}
+use Rattle.volume.specs.declared.EntryNumber.{EntryNumber}
+use Rattle.volume.specs.declared.Inode.{Inode}
+use Rattle.volume.specs.declared.Entry.{Entry}
+use Rattle.volume.specs.declared.Volume.{Volume}
+use Rattle.volume.specs.declared.ShownEntry.{ShownEntry}
+use Rattle.volume.specs.declared.Form.the-variants.{Plain, Decrypted, Encoded}
+use Rattle.volume.proofs.SoundInvariant.{pass, used-range}
+use Rattle.volume.proofs.Soundness.{sound}
+use Rattle.volume.proofs.Bytewise.{bytes-take, bytes-zeros, bytes-append, fresh-bytes, bytewise-kept}
+use Rattle.volume.proofs.SealedOpens.{was-fine, was-done, derived-bytes}
+
+-- ---- what show answers without the key
+
+keyless-name : (x s t : Bytes) (b k : Bool) → cond b (cond k Decrypted Encoded) Plain ≡ Encoded → cond b (cond k x t) s ≡ t
+keyless-name x s t true true h = absurd (let z : _≡_ {A = ℕ} 0 1 = cc in omega arith)
+keyless-name x s t true false h = refl
+keyless-name x s t false k h = absurd (let z : _≡_ {A = ℕ} 0 1 = cc in omega arith)
+
+shown-same : (s t : ShownEntry) → shown s ≡ shown t → s ≡ t
+shown-same s t e = cc
+
+module _ (C : Cipher) (v : Volume) where
+  shown-encoded : (dir : Inode) (e : EntryNumber) (s : Bytes) → formIn v dir ≡ Encoded → shownName C v dir e s ≡ encoded s (e .0)
+  unfolding shownName formIn
+  shown-encoded dir e s h = keyless-name (nameBytes ((readName C v dir s) .name)) s (encoded s (e .0)) (dir .encrypted) (keyPresent v dir) h
+
+  module _ (e : EntryNumber) (p : InodeNumber) (n : Bytes) (h : ShownKeyless C v e p n) where
+    not-refused : (m : ℕ) → refused m ≢ shown (h .entry)
+    not-refused m q = let z : _≡_ {A = ℕ} 0 1 = cc in absurd (omega arith)
+
+    abbrev x : Entry
+    x = entryAt v e
+
+    abbrev name : Bytes
+    name = shownName C v (inodeAt v (x .parent)) e (nameOf x)
+
+    abbrev told : ShownEntry
+    told = record { parent = x .parent; inode = x .inode; kind = inodeAt v (x .inode) .kind; form = formIn v (inodeAt v (x .parent)); len = length name }
+
+    was-used : Used v (e .0)
+    unfolding check showCheck
+    was-used =
+        pass _ ERANGE _ (was-fine C v (show e (h .lent)) (shown (h .entry)) not-refused (h .answered)) λ h₁ k₁.
+        pass _ ENOENT _ k₁ λ h₂ k₂.
+        h₂
+
+    done : step C v (show e (h .lent)) ≡ effect C v (show e (h .lent))
+    done = was-done C v (show e (h .lent)) (shown (h .entry)) not-refused (h .answered)
+
+    was-told : h .entry ≡ told
+    unfolding effect
+    was-told = shown-same (h .entry) told (sym (h .answered) ∙ ap (λ (o : Outcome). o .answer) done)
+
+    is-parent : x .parent ≡ p
+    is-parent = sym (ap (λ (s : ShownEntry). s .parent) was-told) ∙ h .parent
+
+    is-encoded : n ≡ encoded (nameOf x) (e .0)
+    unfolding effect
+    is-encoded =
+        sym (h .name) ∙ ap₂ (λ (s : ShownEntry) (o : Outcome). take (s .len) (o .buffer)) was-told done ∙ take-append-seam name _
+        ∙ shown-encoded (inodeAt v (x .parent)) e (nameOf x) (sym (ap (λ (s : ShownEntry). s .form) was-told) ∙ h .keyless)
+
+-- ---- on every sound volume
+
+number-same : (a b : EntryNumber) → a .0 ≡ b .0 → a ≡ b
+number-same a b q i = record { 0 = q i }
+
+module _ (C : Cipher) (v : Volume) (s : Sound v) (w : NamesBytewise v) where
+  name-bytes : (e : ℕ) → ByteList (nameOf (slotAt v e))
+  name-bytes e = bytes-take (slotAt v e .len) (slotAt v e .name) (w e)
+
+  in-table : (e : ℕ) → Used v e → e < 256
+  in-table e u = omega (arith, used-range (v .entries) e u, s .entry-slots)
+
+  -- two entries in use of one directory are encoded differently
+  pub entries-apart : (a b : ℕ) → Used v a → Used v b → slotAt v a .parent ≡ slotAt v b .parent → a ≢ b
+      → encoded (nameOf (slotAt v a)) a ≢ encoded (nameOf (slotAt v b)) b
+  entries-apart a b ua ub p ne =
+      encoded-apart (nameOf (slotAt v a)) (nameOf (slotAt v b)) a b (name-bytes a) (name-bytes b) (in-table a ua) (in-table b ub) ne
+      (λ q. ne (s .names-apart a b ua ub p q))
+
+  pub keeps-promise : KeepsPromise C v
+  keeps-promise = record {
+    short = λ e p n h.
+        let l = ap length (is-encoded C v e p n h) in
+        let x = nameOf (entryAt v e) in
+        let some = s .name-lengths (e .0) (was-used C v e p n h) .0 in
+        (omega (arith, l, encoded-length-low x (e .0) (omega (arith, some))), omega (arith, l, encoded-length-high x (e .0)));
+    fair = λ e p n h.
+        subst (λ (l : Bytes). (i : ℕ) → i < length l → (getD l i 0 ≢ 0) × (getD l i 0 ≢ 47)) (sym (is-encoded C v e p n h))
+        (encoded-fair (nameOf (entryAt v e)) (e .0) (name-bytes (e .0)));
+    distinct = λ a b p n h k.
+        by-eq (a .0) (b .0) (number-same a b)
+        (λ ne. absurd (entries-apart (a .0) (b .0) (was-used C v a p n h) (was-used C v b p n k) (is-parent C v a p n h ∙ sym (is-parent C v b p n k)) ne
+        (sym (is-encoded C v a p n h) ∙ is-encoded C v b p n k)));
+  }
+
+-- ---- stored names are bytes, after every request
+
+abbrev AllBytes : List Entry → Type 0
+AllBytes es = (e : ℕ) → ByteList ((getD es e noEntry) .name)
+
+set-entry : (es : List Entry) → AllBytes es → (j : ℕ) (x : Entry) → ByteList (x .name) → AllBytes (set es j x)
+set-entry es w j x h = all-set (λ i y. ByteList (y .name)) es noEntry j x (λ i. bytes-zeros 255) (λ i ne. w i) h
+
+fresh-names : NamesBytewise fresh
+unfolding fresh
+fresh-names e = subst (λ (x : Entry). ByteList (x .name)) (sym (all-same entrySlots e noEntry)) (bytes-zeros 255)
+
+settle-names : (v : Volume) (b : Bytes) (o : Outcome) → NamesBytewise v → (k : Checked) → NamesBytewise (o .volume) → NamesBytewise ((settle v b k o) .volume)
+unfolding settle
+settle-names v b o w Fine f = f
+settle-names v b o w (Refused e) f = w
+
+module _ (C : Cipher) (law : Lawful C) where
+  stored-bytes : (v : Volume) → Bytewise v → (p : InodeNumber) (n : Bytes) → ByteList n → ByteList (stored C v (inodeAt v p) n)
+  unfolding stored encrypted nameKey
+  stored-bytes v w p n h =
+      let dir = inodeAt v p in
+      let key : ByteList (nameKey C v dir) =
+      bytes-take (nameKeySize (dir .context .policy)) (derivedKey C v dir) (derived-bytes C law v w dir (w .nonces (p .0))) in
+      by-cond ByteList (dir .encrypted) _ _ (λ t. law .bytes-encryptName _ _ key (padded-bytes (dir .context .policy .flags) n h)) (λ f. h)
+
+  put-name : (v : Volume) → Bytewise v → NamesBytewise v → (j : ℕ) (p i : InodeNumber) (n : Bytes) → ByteList n
+      → AllBytes (set (v .entries) j (entrySlot p i (stored C v (inodeAt v p) n)))
+  put-name v w u j p i n h =
+      let s = stored C v (inodeAt v p) n in
+      let z : ℕ = 255 - length s in
+      set-entry (v .entries) u j (entrySlot p i s) (bytes-append s (zeros z) (stored-bytes v w p n h) (bytes-zeros z))
+
+  effect-names : (v : Volume) → Bytewise v → NamesBytewise v → (r : Request) → Typed r → NamesBytewise ((effect C v r) .volume)
+  unfolding effect
+  effect-names v w u (addKey d k) t = u
+  effect-names v w u (removeKey d) t = u
+  effect-names v w u (setPolicy i p x) t = by-cond NamesBytewise (inodeAt v i .encrypted) _ _ (λ e. u) (λ e. u)
+  effect-names v w u (getPolicy i) t = u
+  effect-names v w u (create p kind n x) t = put-name v w u (freeEntry v) p (record { 0 = freeInode v }) n (t .0)
+  effect-names v w u (link i p n) t = put-name v w u (freeEntry v) p i n t
+  effect-names v w u (rename e p n) t = put-name v w u (e .0) p (entryAt v e .inode) n t
+  effect-names v w u (exchange a b) t =
+      let one = withInode (entryAt v a) (entryAt v b .inode) in
+      let other = withInode (entryAt v b) (entryAt v a .inode) in
+      set-entry (set (v .entries) (a .0) one) (set-entry (v .entries) u (a .0) one (u (a .0))) (b .0) other (u (b .0))
+  effect-names v w u (remove e) t = set-entry (v .entries) u (e .0) noEntry (bytes-zeros 255)
+  effect-names v w u (find p n) t = u
+  effect-names v w u (show e b) t = u
+  effect-names v w u (seal i n b) t = u
+  effect-names v w u (unseal i n b) t = u
+
+  step-names : (v : Volume) → Bytewise v → NamesBytewise v → (r : Request) → Typed r → NamesBytewise ((step C v r) .volume)
+  unfolding step
+  step-names v w u r t = settle-names v (lent r) (effect C v r) u (check C v r) (effect-names v w u r t)
+
+  names-from : (rs : List Request) (v : Volume) → Bytewise v → NamesBytewise v → AllTyped rs → (m : Moment) → List·Memᴰ m (runFrom C v rs) → NamesBytewise (m .volume)
+  unfolding runFrom momentOf
+  names-from [] v w u t m h = absurd (List·Memᴰ·not-nil h)
+  names-from (r ∷ rs) v w u t m h =
+      let typed = t r (List·Memᴰ·head refl) in
+      let w′ = bytewise-kept C v w r typed in
+      let u′ = step-names v w u r typed in
+      go (List·Memᴰ·cases-cons h) u′ (names-from rs ((step C v r) .volume) w′ u′ (λ q p. t q (List·Memᴰ·tail p)) m)
+    where
+      go : (m ≡ momentOf r (step C v r)) ⊎ List·Memᴰ m (runFrom C ((step C v r) .volume) rs) → NamesBytewise ((step C v r) .volume)
+          → (List·Memᴰ m (runFrom C ((step C v r) .volume) rs) → NamesBytewise (m .volume)) → NamesBytewise (m .volume)
+      go (inl e) u ih = subst NamesBytewise (ap (λ (x : Moment). x .volume) (sym e)) u
+      go (inr p) u ih = ih p
+
+  -- ---- on every volume of every run
+
+  pub promise-kept : (rs : List Request) → AllTyped rs → (m : Moment) → List·Memᴰ m (run C rs) → KeepsPromise C (m .volume)
+  promise-kept rs t m h = keeps-promise C (m .volume) (sound C law rs t m h) (names-from rs fresh fresh-bytes fresh-names t m h)
