@@ -6,7 +6,8 @@ use script::words;
 use volume::Volume;
 ghost use mathlib.Core.Path.{_≡_};
 ghost use Prim.Native.Nat.{_+_, _*_, _≤_, _<_};
-ghost use lib.ListN.{length};
+ghost use lib.ListN.{length, take};
+ghost use Rattle.session.specs.Lines.{answered};
 ghost use Rattle.io.specs.Counts.{Counts};
 
 // A line of 131,072 bytes, its carriage return, and one byte more, so that a line that was cut is over the limit.
@@ -35,6 +36,7 @@ fn out_room() -> [u8; OUT_ROOM]
 // Answers the line that the first `used` bytes are, and returns the volume after it.
 fn finish(v: Volume, line: &[u8], used: usize, beside: &mut [u8], out: &mut [u8]) -> Volume
     requires { ⌜ (used ≤ length (now line)) × (length (now line) ≤ length (now beside)) × (1000 + 2 * length (now beside) ≤ length (now out)) ⌝ }
+    ensures { λ r. ⌜ r ≡ answered v (take used (now (line .entry))) .volume ⌝ }
 {
     let r = lines::answer_line(v, &line[..used], beside, out);
     let n = r.len;
@@ -43,7 +45,7 @@ fn finish(v: Volume, line: &[u8], used: usize, beside: &mut [u8], out: &mut [u8]
 }
 
 // Adds a byte to a line. Where the line has no room left, its last byte is replaced while that is a blank: then the cut line still tells whether a
-// word comes, and which byte it begins with.
+// word comes, and whether that is a comment. A carriage return there is not the line's last byte, so it becomes a byte of a word.
 fn add_byte(line: &mut [u8], used: usize, b: u8) -> usize
     requires { ⌜ (used ≤ length (now line)) × (0 < length (now line)) ⌝ }
     ensures { λ r. ⌜ r ≤ length (now (line .entry)) ⌝ }
@@ -53,8 +55,13 @@ fn add_byte(line: &mut [u8], used: usize, b: u8) -> usize
         return used + 1;
     }
     let last = line.len() - 1;
-    if words::is_blank(line[last]) {
+    let end = line[last];
+    if words::is_blank(end) {
         line[last] = b;
+        return used;
+    }
+    if end == 13 {
+        line[last] = b'.';
     }
     used
 }
