@@ -271,18 +271,26 @@ def xts_fits(key, block):
     return len(key) == 64 and len(block) == 4096
 
 
+# A byte string of the request script, of at most MOST_BYTES bytes: hex digits of either case, `=` and the bytes themselves, or `-` for none.
 def bytes_of(word):
-    if word == "-":
-        return b""
-    if word == "" or len(word) % 2 or len(word) > 2 * MOST_BYTES or set(word) - set("0123456789abcdef"):
+    if word.startswith("="):
+        data = word[1:].encode("ascii")
+    elif word == "-":
+        data = b""
+    elif word == "" or len(word) % 2 or set(word) - set("0123456789abcdefABCDEF"):
         raise Malformed
-    return bytes.fromhex(word)
+    else:
+        data = bytes.fromhex(word)
+    if len(data) > MOST_BYTES:
+        raise Malformed
+    return data
 
 
+# A number of the request script: decimal digits, of at most 64 bits.
 def number_of(word):
-    if len(word) != 16 or set(word) - set("0123456789abcdef"):
+    if word == "" or set(word) - set("0123456789") or int(word) >= 2**64:
         raise Malformed
-    return int(word, 16)
+    return int(word)
 
 
 def hex_of(data):
@@ -293,12 +301,21 @@ def result(fits, run, buffer):
     return f"0 {hex_of(run())}" if fits else f"{EINVAL} {hex_of(buffer)}"
 
 
-# The words after a request's name: the last one takes what is left of the line, so a word too many is no byte string.
-def words_of(rest, count):
-    words = rest.split(" ", count - 1)
+# The words of a line, with spaces or tabs between them.
+def words_in(line):
+    return [word for word in line.replace("\t", " ").split(" ") if word]
+
+
+# The words after a request's name, of which there must be so many.
+def words_of(words, count):
     if len(words) != count:
         raise Malformed
     return words
+
+
+# The one word after a request's name, a byte string.
+def only_bytes(words):
+    return bytes_of(*words_of(words, 1))
 
 
 def master_of(word):
@@ -313,23 +330,23 @@ def stored_of(word):
     return bytes_of(word)
 
 
-def answer_policy_request(name, rest):
+def answer_policy_request(name, words):
     if name == "policy":
-        return hex_of(policy_bytes(read_policy(bytes_of(rest))))
+        return hex_of(policy_bytes(read_policy(only_bytes(words))))
     if name == "context":
-        return hex_of(context_bytes(read_context(bytes_of(rest))))
-    one, other = map(bytes_of, words_of(rest, 2))
+        return hex_of(context_bytes(read_context(only_bytes(words))))
+    one, other = map(bytes_of, words_of(words, 2))
     return "yes" if read_policy(one) == read_policy(other) else "no"
 
 
 # Every word is read before anything is refused.
-def answer_name_request(name, rest):
+def answer_name_request(name, words):
     if name == "check-name":
-        return check_name(bytes_of(rest))
+        return check_name(only_bytes(words))
     if name == "encode-name":
-        number, stored = words_of(rest, 2)
+        number, stored = words_of(words, 2)
         return hex_of(encode_name(number_of(number), stored_of(stored)))
-    context, master, last = words_of(rest, 3)
+    context, master, last = words_of(words, 3)
     context, master = bytes_of(context), master_of(master)
     if name == "store-name":
         last = bytes_of(last)
@@ -339,31 +356,31 @@ def answer_name_request(name, rest):
 
 
 # 0 and what was asked for, or the errno alone.
-def or_errno(run, name, rest):
+def or_errno(run, name, words):
     try:
-        found = run(name, rest)
+        found = run(name, words)
         return "0" if found is None else f"0 {found}"
     except Refused as refusal:
         return str(refusal.errno)
 
 
-def answer_request(name, rest):
+def answer_request(name, words):
     if name in ("policy", "context", "same-policy"):
-        return or_errno(answer_policy_request, name, rest)
+        return or_errno(answer_policy_request, name, words)
     if name in ("check-name", "store-name", "read-name", "encode-name"):
-        return or_errno(answer_name_request, name, rest)
+        return or_errno(answer_name_request, name, words)
     if name == "key-expansion":
-        key = bytes_of(rest)
+        key = only_bytes(words)
         if len(key) not in range(16, 36, 4):
             raise Malformed
         return f"0 {checked_schedule(key).hex()}"
     if name in ("ecb-encrypt", "cts-encrypt", "cts-decrypt"):
-        key, text = map(bytes_of, words_of(rest, 2))
+        key, text = map(bytes_of, words_of(words, 2))
         fits = ecb_fits if name == "ecb-encrypt" else cts_fits
         run = {"ecb-encrypt": ecb_encrypt, "cts-encrypt": cts_encrypt, "cts-decrypt": cts_decrypt}[name]
         return result(fits(key, text), lambda: run(key, text), text)
     if name in ("xts-encrypt", "xts-decrypt"):
-        key, number, block = words_of(rest, 3)
+        key, number, block = words_of(words, 3)
         key, number, block = bytes_of(key), number_of(number), bytes_of(block)
         return result(xts_fits(key, block), lambda: xts(key, number, block, name == "xts-decrypt"), block)
     raise Malformed
@@ -372,9 +389,9 @@ def answer_request(name, rest):
 def answer(line):
     if line == "" or line.startswith("#"):
         return line
-    name, _, rest = line.partition(" ")
     try:
-        return answer_request(name, rest)
+        name, *words = words_in(line) or [""]
+        return answer_request(name, words)
     except Malformed:
         return "malformed"
 
@@ -401,7 +418,7 @@ class Lines:
 
     # A request, whose whole answer must be `answer` where one is given.
     def tell(self, name, *words, answer=None):
-        line = " ".join([name] + [f"{w:016x}" if isinstance(w, int) else hex_of(w) for w in words])
+        line = " ".join([name] + [str(w) if isinstance(w, int) else hex_of(w) for w in words])
         self.take(line)
         if answer not in (None, self.stdout[-1]):
             stop(f"the answer is not {answer[:200]}: {line[:200]}")
@@ -954,9 +971,9 @@ def malformed_policies():
         "policy",
         "policy ",
         "policy " + policy[1:],
-        "policy " + policy + " ",
-        "policy " + policy.upper(),
-        "policy  " + policy,
+        "policy " + policy + " -",
+        "Policy " + policy.upper(),
+        "policy\t" + policy + "\t" + policy,
         "policies " + policy,
         "policy " + "00" * (MOST_BYTES + 1),
         "context",
@@ -988,7 +1005,7 @@ def malformed_names():
         "store-name " + context + " " + master + " ",
         "store-name " + context + " " + master + " 6",
         "store-name " + context + " " + master + " 61 61",
-        *("store-name " + context + " " + wrong + " 61" for wrong in ("-", master[2:], master + "00", master[1:], "", master[:64], master.upper())),
+        *("store-name " + context + " " + wrong + " 61" for wrong in ("-", master[2:], master + "00", master[1:], "", master[:64], "=" + master)),
         "store-name - " + master[2:] + " 61",
         "store-name " + context[1:] + " " + master + " 61",
         "read-name",
@@ -997,9 +1014,9 @@ def malformed_names():
         *("read-name " + context + " " + wrong + " " + stored for wrong in ("-", master[2:], master + "00")),
         "read-name - - " + stored,
         "encode-name",
-        "encode-name 0000000000000000",
-        *("encode-name " + wrong + " " + stored for wrong in ("-", "0", "00000000000000000", "000000000000000", "000000000000000G", "")),
-        *("encode-name 0000000000000000 " + wrong for wrong in ("-", "", "0", "00" * 256, "00" * 4200, stored + " ")),
+        "encode-name 0",
+        *("encode-name " + wrong + " " + stored for wrong in ("-", "-1", "0x0", "a", "18446744073709551616", "")),
+        *("encode-name 0 " + wrong for wrong in ("-", "", "0", "00" * 256, "00" * 4200, stored + " 0")),
     )
 
 
@@ -1016,17 +1033,17 @@ def malformed(lines):
         "ecb-encrypt",
         "ecb-encrypt " + key,
         "ecb-encrypt " + key + " ",
-        "ecb-encrypt  " + key + " " + text,
-        "ecb-encrypt " + key + " " + text + " ",
+        " #",
+        "ecb-encrypt " + key + " " + text + "\t-",
         "cts-encrypt " + key + " " + text + " " + text,
         "cts-encrypt " + key + " " + text[1:],
-        "cts-decrypt " + key.upper() + " " + text,
+        "cts-decrypt " + key + text,
         "cts-decrypt " + key + " " + text[:-1] + "g",
         "cts-decrypt " + key + " --",
         "xts-encrypt " + key + " " + text,
-        "xts-encrypt " + key + " 1 " + text,
-        "xts-decrypt " + key + " 00000000000000001 " + text,
-        "xts-decrypt " + key + " 0000000000000001",
+        "xts-encrypt " + key + " 1 " + text + " 1",
+        "xts-decrypt " + key + " 99999999999999999999 " + text,
+        "xts-decrypt " + key + " 1",
         *malformed_policies(),
         *malformed_names(),
     ):

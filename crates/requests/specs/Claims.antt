@@ -5,8 +5,14 @@ use Rattle.volume.specs.Volume.{fresh}
 use Rattle.volume.specs.Request.{Request}
 use Rattle.volume.specs.Run.{Moment, run}
 use Rattle.volume.specs.Sound.{Sound}
+use Rattle.volume.specs.SealedOpens.{Bytewise}
+use Rattle.volume.specs.ShownApart.{KeepsPromise}
 use Rattle.volume.specs.TwoRuns.{AllTyped}
 
--- a fresh volume is sound, and so is the volume after every request of every list
+-- a fresh volume is sound and its bytes are bytes, and so is the volume after every request of every list
 abbrev pub AlwaysSound : Cipher → Type 0
-AlwaysSound C = Sound fresh × ((rs : List Request) → AllTyped rs → (m : Moment) → List·Memᴰ m (run C rs) → Sound (m .volume))
+AlwaysSound C = Sound fresh × Bytewise fresh × ((rs : List Request) → AllTyped rs → (m : Moment) → List·Memᴰ m (run C rs) → Sound (m .volume) × Bytewise (m .volume))
+
+-- names shown without the key keep their promise after every request of every list
+abbrev pub PromiseKept : Cipher → Type 0
+PromiseKept C = (rs : List Request) → AllTyped rs → (m : Moment) → List·Memᴰ m (run C rs) → KeepsPromise C (m .volume)

@@ -6,9 +6,9 @@ ghost use Rattle.fscrypt.specs.Cipher.{fscrypt};
 ghost use Rattle.volume.specs.PolicyClause.{PolicyClause};
 ghost use Rattle.volume.specs.SealedOpens.{SealedOpens};
 ghost use Rattle.volume.specs.TwoRuns.{AllTyped, thirteen, TwoRuns};
-ghost use Rattle.requests.specs.Claims.{AlwaysSound};
+ghost use Rattle.requests.specs.Claims.{AlwaysSound, PromiseKept};
 
-// A fresh volume is sound, and so is the volume after every request of every list.
+// A fresh volume is sound and its bytes are bytes, and so is the volume after every request of every list.
 pub fn every_volume_is_sound()
     ensures { λ _. ⌜ AlwaysSound fscrypt ⌝ }
 {}
@@ -18,9 +18,15 @@ pub fn policies_hold()
     ensures { λ _. ⌜ PolicyClause fscrypt ⌝ }
 {}
 
-// What was sealed opens, and a name that was given is the name that is shown.
+// What was sealed opens, and a name that was given is the name that is shown: on every volume that is sound and whose bytes are bytes, as those are that
+// requests made.
 pub fn sealed_blocks_open()
     ensures { λ _. ⌜ SealedOpens fscrypt ⌝ }
+{}
+
+// Names shown without the key have at most 255 bytes, no NUL and no `/`, and are distinct in a directory.
+pub fn shown_names_keep_their_promise()
+    ensures { λ _. ⌜ PromiseKept fscrypt ⌝ }
 {}
 
 fn nothing() {}

@@ -1,13 +1,15 @@
 // What is written to standard output.
-use crate::hex;
-use crate::hex::MOST_DIGITS;
+use crate::arguments::MOST_BYTES;
 use errno::Checked;
 use errno::Errno;
 use libc::STDOUT_FILENO;
+use script::output;
 ghost use mathlib.Core.Path.{_≡_};
 ghost use Prim.Native.Nat.{_≤_};
 ghost use lib.ListN.{length};
-ghost use Rattle.errno.specs.Refusals.{number};
+
+// Two digits for each byte.
+const MOST_DIGITS: usize = 2 * MOST_BYTES;
 
 pub fn malformed() {
     io::write_all(STDOUT_FILENO, b"malformed\n");
@@ -24,7 +26,7 @@ fn room() -> [u8; MOST_DIGITS]
     [0u8; MOST_DIGITS]
 }
 
-// A byte string, as a request writes it.
+// A byte string in hex, `-` for none.
 fn write_bytes(b: &[u8])
     requires { ⌜ length (now b) ≤ 4200 ⌝ }
 {
@@ -33,7 +35,7 @@ fn write_bytes(b: &[u8])
         return;
     }
     let mut text = room();
-    let n = hex::encode(b, &mut text);
+    let n = output::put_hex(&mut text, 0, b);
     io::write_all(STDOUT_FILENO, &text[..n]);
 }
 
@@ -47,30 +49,9 @@ pub fn after_call(errno: u8, buffer: &[u8])
     io::write_all(STDOUT_FILENO, b"\n");
 }
 
-// Linux's number for a refusal.
-fn number_of(e: Errno) -> u8
-    ensures { λ r. ⌜ r ≡ number e ⌝ }
-{
-    match e {
-        Errno::EPERM => 1,
-        Errno::ENOENT => 2,
-        Errno::EEXIST => 17,
-        Errno::ENOTDIR => 20,
-        Errno::EINVAL => 22,
-        Errno::ENOSPC => 28,
-        Errno::ERANGE => 34,
-        Errno::ENAMETOOLONG => 36,
-        Errno::ENOTEMPTY => 39,
-        Errno::ENODATA => 61,
-        Errno::ENOTUNIQ => 76,
-        Errno::EUCLEAN => 117,
-        Errno::ENOKEY => 126,
-    }
-}
-
 // A refusal's number alone.
 pub fn refused(e: Errno) {
-    io::print_decimal(STDOUT_FILENO, number_of(e) as u64);
+    io::print_decimal(STDOUT_FILENO, errno::number_of(e) as u64);
     io::write_all(STDOUT_FILENO, b"\n");
 }
 

@@ -1,10 +1,11 @@
 // The ciphers: a request's words are decoded, the function is called, and its answer is written.
 use crate::answers;
-use crate::hex;
-use crate::words;
+use crate::arguments;
 use aes::key_expansion;
 use ciphers::Status;
 use field::sbox;
+use script::Number;
+use script::numbers;
 ghost use Prim.Native.Nat.{_≤_};
 ghost use lib.ListN.{length};
 ghost use Rattle.aes.specs.KeyExpansion.{KeySize};
@@ -46,13 +47,15 @@ fn expand(key: &[u8]) {
 }
 
 // key-expansion KEY
-pub fn on_key(word: &[u8]) {
-    if !hex::is_bytes(word) {
+pub fn on_key(args: &[u8]) {
+    let word = arguments::first(args);
+    let extra = arguments::second(args);
+    if !arguments::is_bytes(word) || !arguments::is_missing(extra) {
         answers::malformed();
         return;
     }
-    let mut key = hex::room();
-    let k = hex::decode(word, &mut key);
+    let mut key = arguments::room();
+    let k = arguments::decode(word, &mut key);
     expand(&key[..k]);
 }
 
@@ -73,16 +76,20 @@ fn run_text(call: TextCall, key: &[u8], text: &mut [u8])
 
 // KEY TEXT
 pub fn on_text(call: TextCall, args: &[u8]) {
-    let key_word = words::first(args);
-    let text_word = words::rest(args);
-    if !hex::is_bytes(key_word) || !hex::is_bytes(text_word) {
+    let key_word = arguments::first(args);
+    let text_word = arguments::second(args);
+    let extra = arguments::third(args);
+    if !arguments::is_bytes(key_word)
+        || !arguments::is_bytes(text_word)
+        || !arguments::is_missing(extra)
+    {
         answers::malformed();
         return;
     }
-    let mut key = hex::room();
-    let k = hex::decode(key_word, &mut key);
-    let mut text = hex::room();
-    let n = hex::decode(text_word, &mut text);
+    let mut key = arguments::room();
+    let k = arguments::decode(key_word, &mut key);
+    let mut text = arguments::room();
+    let n = arguments::decode(text_word, &mut text);
     run_text(call, &key[..k], &mut text[..n]);
 }
 
@@ -102,18 +109,23 @@ fn run_block(call: BlockCall, key: &[u8], number: u64, block: &mut [u8])
 
 // KEY NUMBER BLOCK
 pub fn on_block(call: BlockCall, args: &[u8]) {
-    let key_word = words::first(args);
-    let others = words::rest(args);
-    let number_word = words::first(others);
-    let block_word = words::rest(others);
-    if !hex::is_bytes(key_word) || !hex::is_number(number_word) || !hex::is_bytes(block_word) {
+    let key_word = arguments::first(args);
+    let block_word = arguments::third(args);
+    let extra = arguments::fourth(args);
+    let Number::Is(number) = numbers::number(arguments::second(args)) else {
+        answers::malformed();
+        return;
+    };
+    if !arguments::is_bytes(key_word)
+        || !arguments::is_bytes(block_word)
+        || !arguments::is_missing(extra)
+    {
         answers::malformed();
         return;
     }
-    let mut key = hex::room();
-    let k = hex::decode(key_word, &mut key);
-    let number = hex::number(number_word);
-    let mut block = hex::room();
-    let n = hex::decode(block_word, &mut block);
+    let mut key = arguments::room();
+    let k = arguments::decode(key_word, &mut key);
+    let mut block = arguments::room();
+    let n = arguments::decode(block_word, &mut block);
     run_block(call, &key[..k], number, &mut block[..n]);
 }

@@ -18,19 +18,19 @@
 //
 // The answer is 0 and what is asked for, or the errno of the refusal alone; store-name and read-name check the context before the name.
 //
-// All words but NUMBER are byte strings of at most 4,200 bytes, in lower case hex, `-` for none; MASTER has 64 bytes, and STORED 1 to 255. NUMBER is 16
-// hex digits. One space stands between two words. An empty line, and one that begins with `#`, is written as it is. Any other line is answered
-// `malformed`, and so is one of 65,536 bytes or more.
+// Words, numbers and byte strings are those of the request script, as the library script reads them. Spaces or tabs stand between two words. NUMBER is
+// decimal digits. All other words are byte strings of at most 4,200 bytes: hex digits, or `=` and the bytes themselves, or `-` for none; MASTER has 64
+// bytes, and STORED 1 to 255. An empty line, and one that begins with `#`, is written as it is. Any other line is answered `malformed`, and so is one
+// of 65,536 bytes or more.
 //
 // The files stdin and stdout beside src/ hold the vectors and what they must give. tools/vectors.py makes both.
 mod answers;
+mod arguments;
 mod cipher_calls;
-mod hex;
 mod input;
 mod name_calls;
 mod policy_calls;
 mod requests;
-mod words;
 
 fn main() {
     let mut line = io::large_buffer();

@@ -1,8 +1,7 @@
 // Names: whether one is plain, how an encrypted directory stores one and reads it back, and how a stored one is shown without its key.
 use crate::answers;
-use crate::hex;
+use crate::arguments;
 use crate::policy_calls;
-use crate::words;
 use errno::Checked;
 use fscrypt::Name;
 use fscrypt::NameRead;
@@ -11,6 +10,8 @@ use fscrypt::fname;
 use fscrypt::keysetup;
 use policy::Context;
 use policy::ContextRead;
+use script::Number;
+use script::numbers;
 ghost use Prim.Native.Nat.{_≤_};
 ghost use lib.ListN.{length};
 
@@ -31,37 +32,39 @@ pub fn answer(call: NameCall, args: &[u8]) {
 }
 
 // check-name NAME
-fn on_check(word: &[u8]) {
-    if !hex::is_bytes(word) {
+fn on_check(args: &[u8]) {
+    let word = arguments::first(args);
+    let extra = arguments::second(args);
+    if !arguments::is_bytes(word) || !arguments::is_missing(extra) {
         answers::malformed();
         return;
     }
-    let mut name = hex::room();
-    let n = hex::decode(word, &mut name);
+    let mut name = arguments::room();
+    let n = arguments::decode(word, &mut name);
     answers::after_check(fname::check_name(&name[..n]));
 }
 
 // Whether a word spells a master key: 64 bytes.
 fn is_master_key(word: &[u8]) -> bool {
-    word.len() == 128 && hex::is_bytes(word)
+    arguments::is_between(word, 64, 64)
 }
 
 // The master key that a word spells.
 fn master_key(word: &[u8]) -> [u8; 64] {
     let mut key = [0u8; 64];
-    hex::decode(word, &mut key);
+    arguments::decode(word, &mut key);
     key
 }
 
 // Whether a word spells a stored name: 1 to 255 bytes.
 fn is_stored_name(word: &[u8]) -> bool {
-    2 <= word.len() && word.len() <= 510 && hex::is_bytes(word)
+    arguments::is_between(word, 1, 255)
 }
 
 // The stored name that a word spells.
 fn stored_name(word: &[u8]) -> Name {
     let mut bytes = [0u8; 255];
-    let n = hex::decode(word, &mut bytes);
+    let n = arguments::decode(word, &mut bytes);
     fname::pack(&bytes[..n])
 }
 
@@ -116,16 +119,20 @@ fn store_under(read: ContextRead, master: [u8; 64], name: &[u8]) {
 
 // store-name CONTEXT MASTERKEY NAME
 fn on_store(args: &[u8]) {
-    let context_word = words::first(args);
-    let others = words::rest(args);
-    let key_word = words::first(others);
-    let name_word = words::rest(others);
-    if !hex::is_bytes(context_word) || !is_master_key(key_word) || !hex::is_bytes(name_word) {
+    let context_word = arguments::first(args);
+    let key_word = arguments::second(args);
+    let name_word = arguments::third(args);
+    let extra = arguments::fourth(args);
+    if !arguments::is_bytes(context_word)
+        || !is_master_key(key_word)
+        || !arguments::is_bytes(name_word)
+        || !arguments::is_missing(extra)
+    {
         answers::malformed();
         return;
     }
-    let mut name = hex::room();
-    let n = hex::decode(name_word, &mut name);
+    let mut name = arguments::room();
+    let n = arguments::decode(name_word, &mut name);
     store_under(
         policy_calls::context_in(context_word),
         master_key(key_word),
@@ -156,11 +163,15 @@ fn read_under(read: ContextRead, master: [u8; 64], stored: Name) {
 
 // read-name CONTEXT MASTERKEY STORED
 fn on_read(args: &[u8]) {
-    let context_word = words::first(args);
-    let others = words::rest(args);
-    let key_word = words::first(others);
-    let stored_word = words::rest(others);
-    if !hex::is_bytes(context_word) || !is_master_key(key_word) || !is_stored_name(stored_word) {
+    let context_word = arguments::first(args);
+    let key_word = arguments::second(args);
+    let stored_word = arguments::third(args);
+    let extra = arguments::fourth(args);
+    if !arguments::is_bytes(context_word)
+        || !is_master_key(key_word)
+        || !is_stored_name(stored_word)
+        || !arguments::is_missing(extra)
+    {
         answers::malformed();
         return;
     }
@@ -173,11 +184,15 @@ fn on_read(args: &[u8]) {
 
 // encode-name NUMBER STORED
 fn on_encode(args: &[u8]) {
-    let number_word = words::first(args);
-    let stored_word = words::rest(args);
-    if !hex::is_number(number_word) || !is_stored_name(stored_word) {
+    let stored_word = arguments::second(args);
+    let extra = arguments::third(args);
+    let Number::Is(number) = numbers::number(arguments::first(args)) else {
+        answers::malformed();
+        return;
+    };
+    if !is_stored_name(stored_word) || !arguments::is_missing(extra) {
         answers::malformed();
         return;
     }
-    write_name(encode::encode_name(stored_name(stored_word), hex::number(number_word)));
+    write_name(encode::encode_name(stored_name(stored_word), number));
 }

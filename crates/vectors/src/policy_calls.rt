@@ -1,7 +1,6 @@
 // Policies and contexts: a request's bytes are read, and what was read is written back or compared.
 use crate::answers;
-use crate::hex;
-use crate::words;
+use crate::arguments;
 use errno::Checked;
 use policy::ContextRead;
 use policy::PolicyRead;
@@ -22,15 +21,15 @@ pub fn answer(call: PolicyCall, args: &[u8]) {
 
 // The policy that a word spells; the word is a byte string.
 fn policy_in(word: &[u8]) -> PolicyRead {
-    let mut bytes = hex::room();
-    let n = hex::decode(word, &mut bytes);
+    let mut bytes = arguments::room();
+    let n = arguments::decode(word, &mut bytes);
     policy::read_policy(&bytes[..n])
 }
 
 // The context that a word spells; the word is a byte string.
 pub fn context_in(word: &[u8]) -> ContextRead {
-    let mut bytes = hex::room();
-    let n = hex::decode(word, &mut bytes);
+    let mut bytes = arguments::room();
+    let n = arguments::decode(word, &mut bytes);
     policy::read_context(&bytes[..n])
 }
 
@@ -46,8 +45,10 @@ fn write_policy(read: PolicyRead) {
 }
 
 // policy BYTES
-fn on_policy(word: &[u8]) {
-    if !hex::is_bytes(word) {
+fn on_policy(args: &[u8]) {
+    let word = arguments::first(args);
+    let extra = arguments::second(args);
+    if !arguments::is_bytes(word) || !arguments::is_missing(extra) {
         answers::malformed();
         return;
     }
@@ -65,8 +66,10 @@ fn write_context(read: ContextRead) {
 }
 
 // context BYTES
-fn on_context(word: &[u8]) {
-    if !hex::is_bytes(word) {
+fn on_context(args: &[u8]) {
+    let word = arguments::first(args);
+    let extra = arguments::second(args);
+    if !arguments::is_bytes(word) || !arguments::is_missing(extra) {
         answers::malformed();
         return;
     }
@@ -90,9 +93,13 @@ fn compare(a: PolicyRead, b: PolicyRead) {
 
 // same-policy BYTES BYTES
 fn on_policies(args: &[u8]) {
-    let first_word = words::first(args);
-    let second_word = words::rest(args);
-    if !hex::is_bytes(first_word) || !hex::is_bytes(second_word) {
+    let first_word = arguments::first(args);
+    let second_word = arguments::second(args);
+    let extra = arguments::third(args);
+    if !arguments::is_bytes(first_word)
+        || !arguments::is_bytes(second_word)
+        || !arguments::is_missing(extra)
+    {
         answers::malformed();
         return;
     }

@@ -7,7 +7,7 @@ use crate::name_calls;
 use crate::name_calls::NameCall;
 use crate::policy_calls;
 use crate::policy_calls::PolicyCall;
-use crate::words;
+use script::words;
 
 enum Request {
     KeyExpansion,
@@ -78,8 +78,8 @@ pub fn answer(line: &[u8]) {
         answers::echo(line);
         return;
     }
-    let args = words::rest(line);
-    match request_named(words::first(line)) {
+    let args = words::after_word(line);
+    match request_named(words::first_word(line)) {
         Request::KeyExpansion => cipher_calls::on_key(args),
         Request::OnText(call) => cipher_calls::on_text(call, args),
         Request::OnBlock(call) => cipher_calls::on_block(call, args),
