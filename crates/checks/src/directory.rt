@@ -6,7 +6,9 @@ use fscrypt::fname;
 use lookup::climb;
 use lookup::entries;
 use lookup::inodes;
+use volume::ENTRY_SLOTS;
 use volume::EntryNumber;
+use volume::INODE_SLOTS;
 use volume::InodeNumber;
 use volume::Volume;
 ghost use mathlib.Core.Path.{_≡_};
@@ -45,10 +47,10 @@ fn room_check(v: Volume, p: InodeNumber, kind: u64, x: [u8; 16]) -> Checked
     if is_nonce_taken(v, p, kind, x) {
         return Checked::Refused(Errno::ENOTUNIQ);
     }
-    if 64 <= inodes::free_inode(v) {
+    if INODE_SLOTS <= inodes::free_inode(v) {
         return Checked::Refused(Errno::ENOSPC);
     }
-    if 64 <= entries::free_entry(v) {
+    if ENTRY_SLOTS <= entries::free_entry(v) {
         return Checked::Refused(Errno::ENOSPC);
     }
     Checked::Fine
@@ -75,7 +77,7 @@ pub fn create_check(v: Volume, p: InodeNumber, kind: u64, name: &[u8], x: [u8; 1
     if shared::is_key_needed(v, p) {
         return Checked::Refused(Errno::ENOKEY);
     }
-    if names::entry_of(v, p, name) < 64 {
+    if names::entry_of(v, p, name) < ENTRY_SLOTS {
         return Checked::Refused(Errno::EEXIST);
     }
     room_check(v, p, kind, x)
@@ -96,10 +98,10 @@ fn linked_check(v: Volume, i: InodeNumber, p: InodeNumber, name: &[u8]) -> Check
     if shared::is_refused_in(v, p, i) {
         return Checked::Refused(Errno::EPERM);
     }
-    if names::entry_of(v, p, name) < 64 {
+    if names::entry_of(v, p, name) < ENTRY_SLOTS {
         return Checked::Refused(Errno::EEXIST);
     }
-    if 64 <= entries::free_entry(v) {
+    if ENTRY_SLOTS <= entries::free_entry(v) {
         return Checked::Refused(Errno::ENOSPC);
     }
     Checked::Fine
@@ -156,7 +158,7 @@ fn move_check(
     if climb::is_under_itself(v, moved, p) {
         return Checked::Refused(Errno::EINVAL);
     }
-    if names::entry_of(v, p, name) < 64 {
+    if names::entry_of(v, p, name) < ENTRY_SLOTS {
         return Checked::Refused(Errno::EEXIST);
     }
     Checked::Fine
@@ -255,7 +257,7 @@ pub fn find_check(v: Volume, p: InodeNumber, name: &[u8]) -> Checked
     if shared::is_key_needed(v, p) {
         return Checked::Refused(Errno::ENOKEY);
     }
-    if 64 <= names::entry_of(v, p, name) {
+    if ENTRY_SLOTS <= names::entry_of(v, p, name) {
         return Checked::Refused(Errno::ENOENT);
     }
     Checked::Fine

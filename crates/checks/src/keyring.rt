@@ -7,6 +7,7 @@ use lookup::keyring;
 use policy::Policy;
 use volume::Inode;
 use volume::InodeNumber;
+use volume::KEY_SLOTS;
 use volume::Volume;
 ghost use mathlib.Core.Path.{_≡_};
 ghost use Rattle.volume.specs.Checks.{isBadKeyLength, addKeyCheck, removeKeyCheck, setPolicyCheck, getPolicyCheck};
@@ -33,10 +34,10 @@ pub fn add_key_check(v: Volume, d: [u8; 8], n: usize) -> Checked
     if is_bad_key_length(n) {
         return Checked::Refused(Errno::EINVAL);
     }
-    if keyring::key_slot(v, d) < 8 {
+    if keyring::key_slot(v, d) < KEY_SLOTS {
         return Checked::Refused(Errno::EEXIST);
     }
-    if 8 <= keyring::free_key(v) {
+    if KEY_SLOTS <= keyring::free_key(v) {
         return Checked::Refused(Errno::ENOSPC);
     }
     Checked::Fine
@@ -45,7 +46,7 @@ pub fn add_key_check(v: Volume, d: [u8; 8], n: usize) -> Checked
 pub fn remove_key_check(v: Volume, d: [u8; 8]) -> Checked
     ensures { λ r. ⌜ r ≡ removeKeyCheck v d ⌝ }
 {
-    if 8 <= keyring::key_slot(v, d) {
+    if KEY_SLOTS <= keyring::key_slot(v, d) {
         return Checked::Refused(Errno::ENOKEY);
     }
     Checked::Fine

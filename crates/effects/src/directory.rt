@@ -6,9 +6,11 @@ use lookup::inodes;
 use volume::Changed;
 use volume::CreateAnswer;
 use volume::CreateOutcome;
+use volume::ENTRY_SLOTS;
 use volume::Entry;
 use volume::EntryAnswer;
 use volume::EntryNumber;
+use volume::INODE_SLOTS;
 use volume::Inode;
 use volume::InodeNumber;
 use volume::LinkOutcome;
@@ -20,7 +22,7 @@ ghost use mathlib.Core.Bool.{false};
 ghost use Prim.Native.Nat.{_≤_, _<_};
 ghost use lib.ListN.{length, set};
 ghost use Rattle.fscrypt.specs.Cipher.{fscrypt};
-ghost use Rattle.volume.specs.Volume.{entrySlot};
+ghost use Rattle.volume.specs.Volume.{inodeSlots, entrySlots, entrySlot};
 ghost use Rattle.volume.specs.Request.{outcome, replied, createAnswered, entryAnswered, create, link, rename, exchange, remove, find};
 ghost use Rattle.volume.specs.Lookup.{inodeAt, keyNeeded, freeInode, freeEntry};
 ghost use Rattle.volume.specs.Checks.{stored};
@@ -69,7 +71,7 @@ fn with_entry(v: Volume, n: EntryNumber, e: Entry) -> Volume
     ensures { λ r. ⌜ r ≡ withEntries v (set (v .entries) (n .0) e) ⌝ }
 {
     let mut next = v;
-    if n.0 < 64 {
+    if n.0 < ENTRY_SLOTS as u64 {
         let i = n.0 as usize;
         next.entries[i] = e;
         return next;
@@ -81,8 +83,8 @@ pub fn create(v: Volume, p: InodeNumber, kind: u64, name: &[u8], x: [u8; 16]) ->
     requires { ⌜ length (now name) ≤ 255 ⌝ }
     requires { ⌜ keyNeeded v (inodeAt v p) ≡ false ⌝ }
     requires { ⌜ kind ≤ 4 ⌝ }
-    requires { ⌜ freeInode v < 64 ⌝ }
-    requires { ⌜ freeEntry v < 64 ⌝ }
+    requires { ⌜ freeInode v < inodeSlots ⌝ }
+    requires { ⌜ freeEntry v < entrySlots ⌝ }
     ensures { λ r. ⌜ outcome (createAnswered (r .answer)) [] (r .volume) ≡ effect fscrypt v (create p kind (now (name .entry)) x) ⌝ }
 {
     let i = inodes::free_inode(v);
@@ -102,7 +104,7 @@ pub fn create(v: Volume, p: InodeNumber, kind: u64, name: &[u8], x: [u8; 16]) ->
 pub fn link(v: Volume, i: InodeNumber, p: InodeNumber, name: &[u8]) -> LinkOutcome
     requires { ⌜ length (now name) ≤ 255 ⌝ }
     requires { ⌜ keyNeeded v (inodeAt v p) ≡ false ⌝ }
-    requires { ⌜ freeEntry v < 64 ⌝ }
+    requires { ⌜ freeEntry v < entrySlots ⌝ }
     ensures { λ r. ⌜ outcome (entryAnswered (r .answer)) [] (r .volume) ≡ effect fscrypt v (link i p (now (name .entry))) ⌝ }
 {
     let k = entries::free_entry(v);
@@ -166,7 +168,7 @@ fn without_unheld(v: Volume, i: InodeNumber) -> Volume
     if entries::is_held(es, i) {
         return next;
     }
-    if i.0 < 64 {
+    if i.0 < INODE_SLOTS as u64 {
         let k = i.0 as usize;
         let n = inodes::blank_inode();
         next.inodes[k] = n;

@@ -4,6 +4,7 @@ use lookup::keyring;
 use policy::Context;
 use policy::Policy;
 use volume::Changed;
+use volume::INODE_SLOTS;
 use volume::Inode;
 use volume::InodeNumber;
 use volume::Key;
@@ -15,7 +16,7 @@ ghost use mathlib.Core.List.{[]};
 ghost use Prim.Native.Nat.{_≤_, _<_};
 ghost use lib.ListN.{length};
 ghost use Rattle.fscrypt.specs.Cipher.{fscrypt};
-ghost use Rattle.volume.specs.Volume.{keySlot, encryptedInode};
+ghost use Rattle.volume.specs.Volume.{keySlots, keySlot, encryptedInode};
 ghost use Rattle.volume.specs.Request.{outcome, replied, policyAnswered, addKey, removeKey, setPolicy, getPolicy};
 ghost use Rattle.volume.specs.Lookup.{freeKeySlot, keySlotOf};
 ghost use Rattle.volume.specs.Step.{effect};
@@ -41,7 +42,7 @@ fn new_key(d: [u8; 8], key: &[u8]) -> Key
 
 pub fn add_key(v: Volume, d: [u8; 8], key: &[u8]) -> Changed
     requires { ⌜ length (now key) ≤ 64 ⌝ }
-    requires { ⌜ freeKeySlot v < 8 ⌝ }
+    requires { ⌜ freeKeySlot v < keySlots ⌝ }
     ensures { λ r. ⌜ outcome (replied (r .answer)) (now (key .entry)) (r .volume) ≡ effect fscrypt v (addKey d (now (key .entry))) ⌝ }
 {
     let i = keyring::free_key(v);
@@ -56,7 +57,7 @@ pub fn add_key(v: Volume, d: [u8; 8], key: &[u8]) -> Changed
 
 // The freed slot is all zeros.
 pub fn remove_key(v: Volume, d: [u8; 8]) -> Changed
-    requires { ⌜ keySlotOf v d < 8 ⌝ }
+    requires { ⌜ keySlotOf v d < keySlots ⌝ }
     ensures { λ r. ⌜ outcome (replied (r .answer)) [] (r .volume) ≡ effect fscrypt v (removeKey d) ⌝ }
 {
     let i = keyring::key_slot(v, d);
@@ -99,7 +100,7 @@ pub fn set_policy(v: Volume, i: InodeNumber, bytes: &[u8], x: [u8; 16]) -> Chang
     let read = policy::read_policy(bytes);
     let p = read.policy;
     let dir = encrypted_inode(1, p, x);
-    if i.0 < 64 {
+    if i.0 < INODE_SLOTS as u64 {
         let k = i.0 as usize;
         next.inodes[k] = dir;
         return Changed {

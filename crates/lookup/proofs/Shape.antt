@@ -11,13 +11,14 @@ use Rattle.fscrypt.proofs.Name.{the-row as name-row}
 use Rattle.fscrypt.specs.declared.Name.{Name}
 use Rattle.volume.proofs.Volume.{the-row as volume-row}
 use Rattle.volume.proofs.Entry.{the-row as entry-row}
+use Rattle.volume.specs.Volume.{keySlots, inodeSlots, entrySlots}
 use Rattle.volume.specs.declared.Volume.{Volume}
 use Rattle.volume.specs.declared.Entry.{Entry}
 
 pub record Shaped (v : Volume) : Type 0 where
-  pub keys : length (v .keys) ≡ 8
-  pub inodes : length (v .inodes) ≡ 64
-  pub entries : length (v .entries) ≡ 64
+  pub keys : length (v .keys) ≡ keySlots
+  pub inodes : length (v .inodes) ≡ inodeSlots
+  pub entries : length (v .entries) ≡ entrySlots
 
 pub shaped : (v : Volume) {vs : List Val} → Is volume-row v vs → Shaped v
 shaped v g =

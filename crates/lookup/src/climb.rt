@@ -1,8 +1,8 @@
 // The climb from a directory towards the root, which finds whether a directory would be put under itself.
-use crate::ENTRY_SLOTS;
-use crate::INODE_SLOTS;
 use crate::entries;
 use crate::inodes;
+use volume::ENTRY_SLOTS;
+use volume::INODE_SLOTS;
 use volume::InodeNumber;
 use volume::Met;
 use volume::Volume;

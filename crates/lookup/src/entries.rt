@@ -1,7 +1,7 @@
 // Directory entries: which has a number, where there is room, which a directory has, which has a name there, and which holds an inode.
-use crate::ENTRY_SLOTS;
 use crate::bytes;
 use fscrypt::Name;
+use volume::ENTRY_SLOTS;
 use volume::Entry;
 use volume::EntryNumber;
 use volume::InodeNumber;
@@ -144,7 +144,7 @@ fn is_link(e: Entry, i: InodeNumber) -> bool
 }
 
 // The first entry that holds this inode, or the number of slots. It takes the table alone, so that one can be asked that an entry was taken out of.
-pub fn first_link(entries: [Entry; 64], n: InodeNumber) -> usize
+pub fn first_link(entries: [Entry; ENTRY_SLOTS], n: InodeNumber) -> usize
     ensures { λ r. ⌜ r ≡ firstLink entries n ⌝ }
 {
     let mut i: usize = 0;
@@ -159,7 +159,7 @@ pub fn first_link(entries: [Entry; 64], n: InodeNumber) -> usize
 }
 
 // Whether an entry holds this inode.
-pub fn is_held(entries: [Entry; 64], n: InodeNumber) -> bool
+pub fn is_held(entries: [Entry; ENTRY_SLOTS], n: InodeNumber) -> bool
     ensures { λ r. ⌜ r ≡ isHeld entries n ⌝ }
 {
     first_link(entries, n) < ENTRY_SLOTS

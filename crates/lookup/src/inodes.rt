@@ -1,8 +1,8 @@
 // Inodes: which has a number, where there is room, and which bears a nonce.
-use crate::INODE_SLOTS;
 use crate::bytes;
 use policy::Context;
 use policy::Policy;
+use volume::INODE_SLOTS;
 use volume::Inode;
 use volume::InodeNumber;
 use volume::Volume;

@@ -1,8 +1,8 @@
 // The keyring: which key has a descriptor, where there is room, and whether the key of an inode is present.
-use crate::KEY_SLOTS;
 use crate::bytes;
 use policy::Policy;
 use volume::Inode;
+use volume::KEY_SLOTS;
 use volume::Key;
 use volume::Volume;
 ghost use mathlib.Core.Path.{_≡_};

@@ -4,10 +4,3 @@ pub mod climb;
 pub mod entries;
 pub mod inodes;
 pub mod keyring;
-
-// How many keys, inodes and directory entries there is room for.
-pub const KEY_SLOTS: usize = 8;
-
-pub const INODE_SLOTS: usize = 64;
-
-pub const ENTRY_SLOTS: usize = 64;

@@ -17,7 +17,7 @@ use Rattle.errno.specs.declared.Checked.the-variants.{Fine, Refused}
 use Rattle.errno.proofs.Chains.{passed, passed-test}
 use Rattle.fscrypt.specs.Cipher.{Cipher}
 use Rattle.fscrypt.proofs.Padding.{name-fits}
-use Rattle.volume.specs.Volume.{noKey, noInode, noEntry, fresh}
+use Rattle.volume.specs.Volume.{keySlots, inodeSlots, entrySlots, noKey, noInode, noEntry, fresh}
 use Rattle.volume.specs.Request.{Request, Answer, refused, policyIs, Outcome, outcome, policyAnswered}
 use Rattle.volume.specs.Lookup.{keySlotOf, freeKeySlot, freeInode, freeEntry, inodeAt, keyNeeded}
 use Rattle.volume.specs.Checks.{isBadKind, isBadKeyLength, addKeyCheck, removeKeyCheck, createCheck, linkCheck, renameCheck, findCheck, showCheck, blockCheck}
@@ -46,7 +46,7 @@ module _ (C : Cipher) (v : Volume) (r : Request) (k : Checked) (h : k ≡ check 
 
 pub record KeyRoom (v : Volume) (k : Bytes) : Type 0 where
   pub fits : length k ≤ 64
-  pub room : freeKeySlot v < 8
+  pub room : freeKeySlot v < keySlots
 
 key-fits : (n : ℕ) → isBadKeyLength n ≡ false → n ≤ 64
 unfolding isBadKeyLength
@@ -64,11 +64,11 @@ key-room v d k h =
     let a = passed-test _ _ _ h in
     let b = passed-test _ _ _ (a .1) in
     let c = passed-test _ _ _ (b .1) in
-    record { fits = key-fits (length k) (a .0); room = leb-false 8 (freeKeySlot v) (c .0) }
+    record { fits = key-fits (length k) (a .0); room = leb-false keySlots (freeKeySlot v) (c .0) }
 
-pub key-held : (v : Volume) (d : Bytes) → removeKeyCheck v d ≡ Fine → keySlotOf v d < 8
+pub key-held : (v : Volume) (d : Bytes) → removeKeyCheck v d ≡ Fine → keySlotOf v d < keySlots
 unfolding removeKeyCheck
-key-held v d h = leb-false 8 (keySlotOf v d) (passed-test _ _ _ h .0)
+key-held v d h = leb-false keySlots (keySlotOf v d) (passed-test _ _ _ h .0)
 
 -- ---- names: one that a directory may store
 
@@ -79,12 +79,12 @@ pub record NameRoom (v : Volume) (p : InodeNumber) (n : Bytes) : Type 0 where
 pub record CreateRoom (v : Volume) (p : InodeNumber) (n : Bytes) (kind : ℕ) : Type 0 where
   pub name : NameRoom v p n
   pub known : kind ≤ 4
-  pub inode : freeInode v < 64
-  pub entry : freeEntry v < 64
+  pub inode : freeInode v < inodeSlots
+  pub entry : freeEntry v < entrySlots
 
 pub record LinkRoom (v : Volume) (p : InodeNumber) (n : Bytes) : Type 0 where
   pub name : NameRoom v p n
-  pub entry : freeEntry v < 64
+  pub entry : freeEntry v < entrySlots
 
 module _ (C : Cipher) (v : Volume) (p : InodeNumber) (n : Bytes) where
   pub create-room : (kind : ℕ) (x : Bytes) → createCheck C v p kind n x ≡ Fine → CreateRoom v p n kind
@@ -101,8 +101,8 @@ module _ (C : Cipher) (v : Volume) (p : InodeNumber) (n : Bytes) where
       record {
         name = record { fits = name-fits n (a .0); key = k .0 };
         known = ltb-false 4 kind (or-right (eqb kind 0) (ltb 4 kind) (b .0));
-        inode = leb-false 64 (freeInode v) (i .0);
-        entry = leb-false 64 (freeEntry v) (e .0);
+        inode = leb-false inodeSlots (freeInode v) (i .0);
+        entry = leb-false entrySlots (freeEntry v) (e .0);
       }
 
   pub link-room : (i : InodeNumber) → linkCheck C v i p n ≡ Fine → LinkRoom v p n
@@ -116,7 +116,7 @@ module _ (C : Cipher) (v : Volume) (p : InodeNumber) (n : Bytes) where
       let q = passed-test _ _ _ (k .1) in
       let t = passed-test _ _ _ (q .1) in
       let e = passed-test _ _ _ (t .1) in
-      record { name = record { fits = name-fits n (a .0); key = k .0 }; entry = leb-false 64 (freeEntry v) (e .0) }
+      record { name = record { fits = name-fits n (a .0); key = k .0 }; entry = leb-false entrySlots (freeEntry v) (e .0) }
 
   pub find-room : findCheck C v p n ≡ Fine → NameRoom v p n
   unfolding findCheck
@@ -161,17 +161,17 @@ block-room v i n h =
 pub fresh-by : (k : Key) (n : Inode) (e : Entry) → k ≡ noKey → n ≡ noInode → e ≡ noEntry
     → _≡_ {A = Volume}
     (record {
-      keys = replicate 8 k;
-      inodes = set (replicate 64 n) 0 (record { kind = 1; encrypted = n .encrypted; context = n .context });
-      entries = replicate 64 e;
+      keys = replicate keySlots k;
+      inodes = set (replicate inodeSlots n) 0 (record { kind = 1; encrypted = n .encrypted; context = n .context });
+      entries = replicate entrySlots e;
     })
     fresh
 unfolding fresh
 fresh-by k n e hk hn he i =
     record {
-      keys = replicate 8 (hk i);
-      inodes = set (replicate 64 (hn i)) 0 (record { kind = 1; encrypted = (hn i) .encrypted; context = (hn i) .context });
-      entries = replicate 64 (he i);
+      keys = replicate keySlots (hk i);
+      inodes = set (replicate inodeSlots (hn i)) 0 (record { kind = 1; encrypted = (hn i) .encrypted; context = (hn i) .context });
+      entries = replicate entrySlots (he i);
     }
 
 -- ---- the bytes beside get policy's answer

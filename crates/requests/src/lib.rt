@@ -9,9 +9,12 @@ use errno::Checked;
 use volume::Changed;
 use volume::CreateAnswer;
 use volume::CreateOutcome;
+use volume::ENTRY_SLOTS;
 use volume::EntryAnswer;
 use volume::EntryNumber;
+use volume::INODE_SLOTS;
 use volume::InodeNumber;
+use volume::KEY_SLOTS;
 use volume::LinkOutcome;
 use volume::PolicyOutcome;
 use volume::Reply;
@@ -34,9 +37,9 @@ pub fn fresh() -> Volume
     let n = lookup::inodes::blank_inode();
     let e = lookup::entries::blank_entry();
     let mut v = Volume {
-        keys: [k; 8],
-        inodes: [n; 64],
-        entries: [e; 64],
+        keys: [k; KEY_SLOTS],
+        inodes: [n; INODE_SLOTS],
+        entries: [e; ENTRY_SLOTS],
     };
     let mut root = n;
     root.kind = 1;

@@ -12,7 +12,7 @@ use Rattle.lists.proofs.Slots.{by-cond, all-same}
 use Rattle.errno.specs.declared.Checked.{Checked}
 use Rattle.errno.specs.declared.Checked.the-variants.{Fine, Refused}
 use Rattle.fscrypt.specs.Cipher.{Cipher}
-use Rattle.volume.specs.Volume.{keySlots, noKey, noInode, keySlot, fresh}
+use Rattle.volume.specs.Volume.{keySlots, inodeSlots, noKey, noInode, keySlot, fresh}
 use Rattle.volume.specs.Request.{Request, addKey, removeKey, setPolicy, getPolicy, create, link, rename, exchange, remove, find, show, seal, unseal, Outcome}
 use Rattle.volume.specs.Lookup.{inodeAt, keySlotOf, freeKeySlot, freeInode, isHeld}
 use Rattle.volume.specs.Checks.{isNonceNeeded}
@@ -69,7 +69,7 @@ fresh-bytes = record {
   where
     node : (i : ℕ) → NonceBytes (nodeAt fresh i)
     node zero = bytes-zeros 16
-    node (suc i) = subst NonceBytes (sym (all-same 63 i noInode)) (bytes-zeros 16)
+    node (suc i) = subst NonceBytes (sym (all-same (inodeSlots - 1) i noInode)) (bytes-zeros 16)
 
 settle-bytes : (v : Volume) (b : Bytes) (o : Outcome) → Bytewise v → (k : Checked) → Bytewise (o .volume) → Bytewise ((settle v b k o) .volume)
 unfolding settle

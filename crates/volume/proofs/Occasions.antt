@@ -1,6 +1,6 @@
 -- Each refusal on its occasion, computed from the definitions: nearly every request here fails two checks that stand next to each other in document 01's order, and
 -- answers the number of the earlier. Assumes nothing.
-use Prim.Native.Nat.{ℕ, zero, suc, _+_}
+use Prim.Native.Nat.{ℕ, zero, suc, _+_, _-_}
 use mathlib.Core.Path.{_≡_, refl}
 use mathlib.Core.List.{List, [], _∷_, _++_, map}
 use lib.ListN.{drop}
@@ -9,7 +9,7 @@ use Rattle.errno.specs.Refusals.{_⇒_, _>>_}
 use Rattle.policy.specs.Policies.{isPair, isValid, samePolicy, isMasterKeySize, nameKeySize, policyBytes, policyAt, policyCheck, readPolicy}
 use Rattle.fscrypt.specs.Names.{isDotName, isBadName, nameCheck, rounded, paddedLength, padded, encrypted, beforeNul, isAllNul, paddingCheck, readPadded}
 use Rattle.fscrypt.specs.Encoded.{letter, letters, hexDigit, encoded}
-use Rattle.volume.specs.Volume.{fresh}
+use Rattle.volume.specs.Volume.{inodeSlots, entrySlots, fresh}
 use Rattle.volume.specs.Request.{Request, addKey, removeKey, setPolicy, getPolicy, create, link, rename, exchange, remove, find, show, seal, unseal, Answer, refused, done, created, at, policyIs, shown}
 use Rattle.volume.specs.Lookup.{keySlotOf, freeKeySlot, keyOf, keyPresent, keyNeeded, freeInode, bearsNonce, nonceHolder, freeEntry, entryNamed, firstChild, firstLink, parentOf, climbFrom, isUnderItself}
 use Rattle.volume.specs.Checks.{directoryCheck, isPolicyRefused, isBadKind, isBadKeyLength, isNonceNeeded, derivedKey, nameKey, stored, readName, shownName, isUnreadable, formIn, addKeyCheck, removeKeyCheck, setPolicyCheck, getPolicyCheck, removeCheck, exchangeCheck, blockCheck, createCheck, linkCheck, renameCheck, findCheck, showCheck}
@@ -164,14 +164,20 @@ below : ℕ → List ℕ
 below zero = []
 below (suc n) = n ∷ below n
 
--- an encrypted directory 1 with a file 2; 61 files in the root, and one more entry of the last of them
+-- the highest number of so many. An answer with `_-_` in its place runs into the step limit
+lastOf : ℕ → ℕ
+lastOf zero = zero
+lastOf (suc n) = n
+
+-- an encrypted directory 1 with a file 2; a file in the root for each inode that is left, and one more entry of the last of them. That fills both tables, which
+-- are of one size
 crowd : List Request
 crowd =
     addKey (descriptor 7) (key 9)
     ∷ create (inode 0) 1 (100 ∷ []) (nonce 0)
     ∷ setPolicy (inode 1) (policy 7) (nonce 1)
     ∷ create (inode 1) 2 (97 ∷ []) (nonce 2)
-    ∷ (map (λ (n : ℕ). create (inode 0) 2 (200 ∷ (100 + n) ∷ []) (nonce 0)) (below 61) ++ (link (inode 63) (inode 0) (108 ∷ []) ∷ []))
+    ∷ (map (λ (n : ℕ). create (inode 0) 2 (200 ∷ (100 + n) ∷ []) (nonce 0)) (below (inodeSlots - 3)) ++ (link (inode (lastOf inodeSlots)) (inode 0) (108 ∷ []) ∷ []))
 
 last : List (Request × Answer)
 last =
@@ -179,11 +185,11 @@ last =
     ∷ (create (inode 1) 2 (98 ∷ []) (nonce 3), refused 28)
     ∷ (link (inode 2) (inode 1) (97 ∷ []), refused 17)
     ∷ (link (inode 2) (inode 1) (98 ∷ []), refused 28)
-    ∷ (remove (entry 63), done)
+    ∷ (remove (entry (lastOf entrySlots)), done)
     ∷ (create (inode 1) 2 (98 ∷ []) (nonce 3), refused 28)
-    ∷ (link (inode 2) (inode 1) (98 ∷ []), at (entry 63))
+    ∷ (link (inode 2) (inode 1) (98 ∷ []), at (entry (lastOf entrySlots)))
     ∷ []
 
-full : map (λ (m : Moment). m .answer) (drop 66 (run small (crowd ++ map (λ (r : Request × Answer). r .0) last))) ≡ map (λ (r : Request × Answer). r .1) last
-unfolding moved small inode entry nonce descriptor policy key below crowd last runFrom momentOf step settle lent check effect fresh childOf withoutUnheld _⇒_ _>>_ zeros firstAt same isPair isValid samePolicy isMasterKeySize nameKeySize policyBytes policyAt policyCheck readPolicy isDotName isBadName nameCheck rounded paddedLength padded encrypted beforeNul isAllNul paddingCheck readPadded letter letters hexDigit encoded keySlotOf freeKeySlot keyOf keyPresent keyNeeded freeInode bearsNonce nonceHolder freeEntry entryNamed firstChild firstLink parentOf climbFrom isUnderItself directoryCheck isPolicyRefused isBadKind isBadKeyLength isNonceNeeded derivedKey nameKey stored readName shownName isUnreadable formIn addKeyCheck removeKeyCheck setPolicyCheck getPolicyCheck removeCheck exchangeCheck blockCheck createCheck linkCheck renameCheck findCheck showCheck
+full : map (λ (m : Moment). m .answer) (drop (inodeSlots + 2) (run small (crowd ++ map (λ (r : Request × Answer). r .0) last))) ≡ map (λ (r : Request × Answer). r .1) last
+unfolding moved small inode entry nonce descriptor policy key below lastOf crowd last runFrom momentOf step settle lent check effect fresh childOf withoutUnheld _⇒_ _>>_ zeros firstAt same isPair isValid samePolicy isMasterKeySize nameKeySize policyBytes policyAt policyCheck readPolicy isDotName isBadName nameCheck rounded paddedLength padded encrypted beforeNul isAllNul paddingCheck readPadded letter letters hexDigit encoded keySlotOf freeKeySlot keyOf keyPresent keyNeeded freeInode bearsNonce nonceHolder freeEntry entryNamed firstChild firstLink parentOf climbFrom isUnderItself directoryCheck isPolicyRefused isBadKind isBadKeyLength isNonceNeeded derivedKey nameKey stored readName shownName isUnreadable formIn addKeyCheck removeKeyCheck setPolicyCheck getPolicyCheck removeCheck exchangeCheck blockCheck createCheck linkCheck renameCheck findCheck showCheck
 full = refl

@@ -17,7 +17,7 @@ use Rattle.errno.specs.declared.Errno.the-variants.{EUCLEAN}
 use Rattle.errno.specs.declared.Checked.{Checked}
 use Rattle.fscrypt.specs.Cipher.{Cipher, Lawful}
 use Rattle.fscrypt.proofs.Padding.{length-zeros}
-use Rattle.volume.specs.Volume.{noKey, noInode, plainInode, noEntry, nameOf, fresh}
+use Rattle.volume.specs.Volume.{keySlots, inodeSlots, entrySlots, noKey, noInode, plainInode, noEntry, nameOf, fresh}
 use Rattle.volume.specs.Request.{Request, addKey, removeKey, setPolicy, getPolicy, create, link, rename, exchange, remove, find, show, seal, unseal, Answer, refused, Outcome}
 use Rattle.volume.specs.Lookup.{isFreeKey, inodeAt, isVacant}
 use Rattle.volume.specs.Step.{lent, settle, step}
@@ -231,11 +231,11 @@ module _ (S : Setting) where
   unfolding fresh
   fresh-ok =
       record {
-        keys-ok = λ i u. absurd (true≢false (sym (ap isFreeKey (getD-all 8 i noKey)) ∙ u));
-        inodes-ok = all-set (λ j y. InodeOk S y) (replicate 64 noInode) noInode 0 (plainInode 1) (λ j u. absurd (false≢true u))
-            (λ j ne u. absurd (false≢true (sym (ap (λ (y : Inode). y .encrypted) (getD-all 64 j noInode)) ∙ u))) (λ u. absurd (false≢true u));
-        entries-ok = λ i u. absurd (true≢false (sym (ap isVacant (getD-all 64 i noEntry)) ∙ u));
-        sized = length-replicate 64 noEntry;
+        keys-ok = λ i u. absurd (true≢false (sym (ap isFreeKey (getD-all keySlots i noKey)) ∙ u));
+        inodes-ok = all-set (λ j y. InodeOk S y) (replicate inodeSlots noInode) noInode 0 (plainInode 1) (λ j u. absurd (false≢true u))
+            (λ j ne u. absurd (false≢true (sym (ap (λ (y : Inode). y .encrypted) (getD-all inodeSlots j noInode)) ∙ u))) (λ u. absurd (false≢true u));
+        entries-ok = λ i u. absurd (true≢false (sym (ap isVacant (getD-all entrySlots i noEntry)) ∙ u));
+        sized = length-replicate entrySlots noEntry;
       }
 
   fresh-enc : fresh ≡ enc S fresh

@@ -176,7 +176,7 @@ fresh-sizes = (refl, refl, refl)
 by-inode : (P : ℕ → Inode → Type 0) → P 0 (plainInode 1) → ((i : ℕ) → P (suc i) noInode) → (i : ℕ) → P i (nodeAt fresh i)
 unfolding fresh
 by-inode P r n zero = r
-by-inode P r n (suc i) = subst (P (suc i)) (sym (all-same 63 i noInode)) (n i)
+by-inode P r n (suc i) = subst (P (suc i)) (sym (all-same (inodeSlots - 1) i noInode)) (n i)
 
 fresh-unused : (e : ℕ) → isVacant (slotAt fresh e) ≡ false → ⊥
 fresh-unused e u = true≢false (sym (ap isVacant (fresh-entry e)) ∙ u)

@@ -16,7 +16,7 @@ use Rattle.errno.specs.declared.Checked.the-variants.{Fine, Refused}
 use Rattle.policy.specs.Policies.{nameKeySize}
 use Rattle.fscrypt.specs.Cipher.{Cipher, Lawful}
 use Rattle.fscrypt.specs.Names.{nameCheck, padded}
-use Rattle.volume.specs.Volume.{noKey, noInode, nameOf}
+use Rattle.volume.specs.Volume.{entrySlots, noKey, noInode, nameOf}
 use Rattle.volume.specs.Request.{Request, addKey, removeKey, setPolicy, getPolicy, create, link, rename, exchange, remove, find, show, seal, unseal, Answer, refused, done, created, at, policyIs, shown, Outcome}
 use Rattle.volume.specs.Lookup.{isFreeKey, descriptorOf, isVacant}
 use Rattle.volume.specs.Step.{check, effect}
@@ -128,7 +128,7 @@ module _ (S : Setting) where
     pub keys-ok : (i : ℕ) → KeyOk (getD (v .keys) i noKey)
     pub inodes-ok : (i : ℕ) → InodeOk (getD (v .inodes) i noInode)
     pub entries-ok : (i : ℕ) → Used v i → EntryOk g (dirOf v i) i (slotAt v i)
-    pub sized : length (v .entries) ≡ 64
+    pub sized : length (v .entries) ≡ entrySlots
 
   -- a request of a list whose keys are these
   abbrev pub Fits : Request → Type 0

@@ -11,7 +11,7 @@ use Rattle.lists.specs.Bytes.{Bytes, ByteList, zeros}
 use Rattle.lists.proofs.Tests.{if-false, eqb-other}
 use Rattle.lists.proofs.Tables.{map-set, all-set}
 use Rattle.fscrypt.proofs.Padding.{length-zeros}
-use Rattle.volume.specs.Volume.{noKey, keySlot}
+use Rattle.volume.specs.Volume.{keySlots, entrySlots, noKey, keySlot}
 use Rattle.volume.specs.Request.{addKey, removeKey, getPolicy, find, seal, unseal, at}
 use Rattle.volume.specs.Lookup.{keySlotOf, freeKeySlot, inodeAt}
 use Rattle.volume.specs.Checks.{isBadKeyLength, addKeyCheck, removeKeyCheck, getPolicyCheck, findCheck, blockCheck}
@@ -48,8 +48,8 @@ module _ (S : Setting) {g : Names} (v : Volume) (ok : Inv S g v) where
       let z : Bytes = zeros (length k) in
       let l : length z ≡ length k = length-zeros (length k) in
       test _ tt (ap isBadKeyLength (sym l)) λ h₁.
-      test _ tt (ap (λ (n : ℕ). ltb n 8) (slot-twin S v ok d)) λ h₂.
-      test _ tt (ap (leb 8) (free-key-twin S v ok)) λ h₃.
+      test _ tt (ap (λ (n : ℕ). ltb n keySlots) (slot-twin S v ok d)) λ h₂.
+      test _ tt (ap (leb keySlots) (free-key-twin S v ok)) λ h₃.
       both-fine (record {
         answers = refl;
         buffers = ap zeros (sym l);
@@ -64,7 +64,7 @@ module _ (S : Setting) {g : Names} (v : Volume) (ok : Inv S g v) where
   pub removeKey-twin : (d : Bytes) → Same S g v (removeKey d) (removeKey d)
   unfolding Same check effect removeKeyCheck namedBy naming named blankBuffer
   removeKey-twin d =
-      test _ tt (ap (leb 8) (slot-twin S v ok d)) λ h₁.
+      test _ tt (ap (leb keySlots) (slot-twin S v ok d)) λ h₁.
       both-fine (record {
         answers = refl;
         buffers = refl;
@@ -89,7 +89,7 @@ module _ (S : Setting) {g : Names} (v : Volume) (ok : Inv S g v) where
       part (directory-part S v ok p) λ dir.
       test _ tt (needed-twin S v ok (inodeAt v p)) λ key.
       let e = entryNamed-twin S v ok p n key nb in
-      test _ tt (ap (leb 64) e) λ h.
+      test _ tt (ap (leb entrySlots) e) λ h.
       both-fine (record { answers = ap (λ (m : ℕ). at (record { 0 = m })) e; buffers = refl; volumes = refl; inv = ok; right = tt })
 
   pub seal-twin : (i : InodeNumber) (n : ℕ) (b : Bytes) → Same S g v (seal i n b) (seal i n b)

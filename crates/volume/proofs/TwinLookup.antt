@@ -17,7 +17,7 @@ use Rattle.errno.proofs.Chains.{skip}
 use Rattle.policy.specs.Policies.{isMasterKeySize, nameKeySize}
 use Rattle.fscrypt.specs.Names.{isEmpty, nameCheck, padded, encrypted}
 use Rattle.fscrypt.proofs.Padding.{pad-fits, length-padded, padded-bytes, name-fits, plain-name}
-use Rattle.volume.specs.Volume.{noKey, noInode, noEntry, nameOf}
+use Rattle.volume.specs.Volume.{inodeSlots, noKey, noInode, noEntry, nameOf}
 use Rattle.volume.specs.Lookup.{isFreeKey, onRing, keySlotOf, freeKeySlot, keyOf, masterKey, descriptorOf, keyPresent, keyNeeded, inodeAt, isDirectory, entryAt, isVacant, freeEntry, isIn, isNamed, entryNamed, firstChild, isLink, firstLink, parentOf, climbFrom, isMoved, isUnderItself}
 use Rattle.volume.specs.Checks.{directoryCheck, derivedKey, nameKey, stored, formIn}
 use Rattle.volume.specs.Sound.{slotAt}
@@ -169,7 +169,7 @@ module _ (S : Setting) where
 
     pub under-twin : (moved from : InodeNumber) → isUnderItself (enc S v) moved from ≡ isUnderItself v moved from
     unfolding isUnderItself
-    under-twin moved from = ap (λ (m : Met). isDirectory (inodeAt v moved) && isMoved m) (climb-twin 64 moved from)
+    under-twin moved from = ap (λ (m : Met). isDirectory (inodeAt v moved) && isMoved m) (climb-twin inodeSlots moved from)
 
     -- ---- a name stored in a directory whose key is not wanting
 

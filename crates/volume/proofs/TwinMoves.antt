@@ -9,7 +9,7 @@ use lib.Seq.{getD-set-other}
 use lib.Dec.{eqb, ltb}
 use Rattle.lists.proofs.Tests.{eqb-self}
 use Rattle.lists.proofs.Tables.{map-set, all-set}
-use Rattle.volume.specs.Volume.{noInode, noEntry}
+use Rattle.volume.specs.Volume.{entrySlots, noInode, noEntry}
 use Rattle.volume.specs.Request.{exchange, remove, done, outcome}
 use Rattle.volume.specs.Lookup.{keyNeeded, inodeAt, entryAt, isVacant, hasEntries, isHeld, isUnderItself}
 use Rattle.volume.specs.Checks.{isPolicyRefused, exchangeCheck, removeCheck}
@@ -84,7 +84,7 @@ module _ (S : Setting) {g : Names} (v : Volume) (ok : Inv S g v) where
   remove-twin e =
       let o = entry-twin S v ok e in
       test _ tt (ap isVacant o) λ h₁.
-      test _ tt (ap (λ (y : Entry). hasEntries (enc S v) (y .inode)) o ∙ ap (λ (n : ℕ). ltb n 64) (child-twin S v ok i)) λ h₂.
+      test _ tt (ap (λ (y : Entry). hasEntries (enc S v) (y .inode)) o ∙ ap (λ (n : ℕ). ltb n entrySlots) (child-twin S v ok i)) λ h₂.
       both-fine (subst (λ (y : Entry). StepTwin S (remove e) g
       (outcome done [] (record {
         keys = map (encKey S) (v .keys);
@@ -110,7 +110,7 @@ module _ (S : Setting) {g : Names} (v : Volume) (ok : Inv S g v) where
       es-enc = sym (map-set f (v .entries) (e .0) noEntry)
 
       held : isHeld (set (map f (v .entries)) (e .0) noEntry) i ≡ isHeld es i
-      held = ap (λ (l : List Entry). isHeld l i) es-enc ∙ ap (λ (n : ℕ). ltb n 64) (link-at-twin S v ok es i)
+      held = ap (λ (l : List Entry). isHeld l i) es-enc ∙ ap (λ (n : ℕ). ltb n entrySlots) (link-at-twin S v ok es i)
 
       ok₁ : Inv S g (withEntries v es)
       ok₁ = set-inv (v .entries) (e .0) noEntry ok (λ u. absurd (true≢false u))

@@ -11,7 +11,7 @@ use Rattle.lists.specs.Bytes.{Bytes, ByteList, firstAt}
 use Rattle.lists.proofs.Tests.{eqb-self}
 use Rattle.lists.proofs.Tables.{all-set, firstAt-passes}
 use Rattle.policy.specs.Policies.{policyCheck, readPolicy}
-use Rattle.volume.specs.Volume.{noInode, plainInode, encryptedInode, entrySlot}
+use Rattle.volume.specs.Volume.{entrySlots, noInode, plainInode, encryptedInode, entrySlot}
 use Rattle.volume.specs.Request.{setPolicy, create, link, rename, done, created, at, outcome}
 use Rattle.volume.specs.Lookup.{keyNeeded, inodeAt, isFree, freeInode, nonceHolder, entryAt, isVacant, freeEntry, hasEntries, isUnderItself}
 use Rattle.volume.specs.Checks.{isPolicyRefused, isNonceNeeded, stored, setPolicyCheck, createCheck, linkCheck, renameCheck}
@@ -48,7 +48,7 @@ module _ (S : Setting) {g : Names} (v : Volume) (ok : Inv S g v) where
       test _ tt refl λ h₃.
       test _ tt refl λ h₄.
       test _ tt refl λ h₅.
-      test _ tt (ap (λ (n : ℕ). not (node .encrypted) && ltb n 64) (child-twin S v ok i)) λ h₆.
+      test _ tt (ap (λ (n : ℕ). not (node .encrypted) && ltb n entrySlots) (child-twin S v ok i)) λ h₆.
       test _ tt refl λ h₇.
       both-fine (go (node .encrypted) h₆)
     where
@@ -84,10 +84,10 @@ module _ (S : Setting) {g : Names} (v : Volume) (ok : Inv S g v) where
       test _ tt refl λ h₁.
       part (directory-part S v ok p) λ dir.
       test _ tt (needed-twin S v ok (inodeAt v p)) λ key.
-      test _ tt (ap (λ (m : ℕ). ltb m 64) (entryNamed-twin S v ok p n key nb)) λ h₂.
+      test _ tt (ap (λ (m : ℕ). ltb m entrySlots) (entryNamed-twin S v ok p n key nb)) λ h₂.
       test _ tt refl λ h₃.
       test _ tt refl λ h₄.
-      test _ tt (ap (leb 64) (free-entry-twin S v ok)) λ h₅.
+      test _ tt (ap (leb entrySlots) (free-entry-twin S v ok)) λ h₅.
       let e : EntryNumber = record { 0 = freeEntry v } in
       both-fine (record {
         answers = ap (λ (m : ℕ). created i (record { 0 = m })) (free-entry-twin S v ok);
@@ -129,8 +129,8 @@ module _ (S : Setting) {g : Names} (v : Volume) (ok : Inv S g v) where
       test _ tt refl λ h₂.
       test _ tt (needed-twin S v ok (inodeAt v p)) λ key.
       test _ tt refl λ h₃.
-      test _ tt (ap (λ (m : ℕ). ltb m 64) (entryNamed-twin S v ok p n key nb)) λ h₄.
-      test _ tt (ap (leb 64) (free-entry-twin S v ok)) λ h₅.
+      test _ tt (ap (λ (m : ℕ). ltb m entrySlots) (entryNamed-twin S v ok p n key nb)) λ h₄.
+      test _ tt (ap (leb entrySlots) (free-entry-twin S v ok)) λ h₅.
       let e : EntryNumber = record { 0 = freeEntry v } in
       both-fine (record {
         answers = ap (λ (m : ℕ). at (record { 0 = m })) (free-entry-twin S v ok);
@@ -154,7 +154,7 @@ module _ (S : Setting) {g : Names} (v : Volume) (ok : Inv S g v) where
       test _ tt (needed-twin S v ok (inodeAt v p)) λ key.
       test _ tt (ap (λ (x : Entry). isPolicyRefused (inodeAt v p) (inodeAt v (x .inode))) o) λ h₃.
       test _ tt (ap (λ (x : Entry). isUnderItself (enc S v) (x .inode) p) o ∙ under-twin S v ok i p) λ h₄.
-      test _ tt (ap (λ (m : ℕ). ltb m 64) (entryNamed-twin S v ok p n key nb)) λ h₅.
+      test _ tt (ap (λ (m : ℕ). ltb m entrySlots) (entryNamed-twin S v ok p n key nb)) λ h₅.
       both-fine (record {
         answers = refl;
         buffers = refl;

@@ -16,7 +16,7 @@ use Rattle.lists.proofs.Tests.{and-known, if-false, eqb-self, eqb-other}
 use Rattle.lists.proofs.Tables.{map-set, map-agree, all-set, firstAt-none}
 use Rattle.errno.specs.declared.Checked.the-variants.{Fine}
 use Rattle.fscrypt.specs.Names.{nameCheck}
-use Rattle.volume.specs.Volume.{noInode, noEntry, nameOf, entrySlot}
+use Rattle.volume.specs.Volume.{entrySlots, noInode, noEntry, nameOf, entrySlot}
 use Rattle.volume.specs.Lookup.{keyNeeded, inodeAt, isVacant, isIn, firstChild, hasEntries}
 use Rattle.volume.specs.Checks.{stored}
 use Rattle.volume.specs.Step.{withInodes}
@@ -46,7 +46,7 @@ module _ (S : Setting) {g : Names} (v : Volume) (ok : Inv S g v) where
   pub no-child : (i : InodeNumber) → hasEntries v i ≡ false → (j : ℕ) → Used v j → eqb ((slotAt v j) .parent .0) (i .0) ≡ false
   unfolding firstChild
   no-child i h j u =
-      let w : 64 ≤ firstAt (isIn i) (v .entries) = ltb-false (firstAt (isIn i) (v .entries)) 64 h in
+      let w : entrySlots ≤ firstAt (isIn i) (v .entries) = ltb-false (firstAt (isIn i) (v .entries)) entrySlots h in
       and-known (ap not u) (firstAt-none (isIn i) (v .entries) noEntry refl (omega (arith, ok .sized)) j)
 
   -- an entry whose directory stays as it is

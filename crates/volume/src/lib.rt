@@ -30,10 +30,17 @@ pub struct Entry {
     pub name: [u8; 255],
 }
 
+// How many keys, inodes and directory entries there is room for: keySlots, inodeSlots and entrySlots of specs/Volume.antt.
+pub const KEY_SLOTS: usize = 8;
+
+pub const INODE_SLOTS: usize = 64;
+
+pub const ENTRY_SLOTS: usize = 64;
+
 pub struct Volume {
-    pub keys: [Key; 8],
-    pub inodes: [Inode; 64],
-    pub entries: [Entry; 64],
+    pub keys: [Key; KEY_SLOTS],
+    pub inodes: [Inode; INODE_SLOTS],
+    pub entries: [Entry; ENTRY_SLOTS],
 }
 
 // The answer of a request that answers no more than that it was done.

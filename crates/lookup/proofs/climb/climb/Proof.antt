@@ -3,6 +3,7 @@
 use mathlib.Core.Path.{_≡_, refl, sym, _∙_, ap}
 use Prim.Native.Nat.{_≤_}
 use native.Mathlib.Omega.{arith}
+use Rattle.volume.specs.Volume.{inodeSlots}
 use Rattle.volume.specs.Lookup.{climbFrom}
 use Rattle.lookup.proofs.Ascent.{met-moved, met-root, met-neither, met-later}
 use borrow.Author.Needs.{needs}
@@ -10,7 +11,7 @@ use Rattle.lookup.proofs.climb.climb.Statement.{statement}
 use Rattle.lookup.proofs.climb.climb.Tie as tie
 
 abbrev Inv-loop : tie.InvT-loop
-Inv-loop v moved at₀ left₀ at left = (left ≤ 64) × (climbFrom v moved 64 at₀ ≡ climbFrom v moved left at)
+Inv-loop v moved at₀ left₀ at left = (left ≤ inodeSlots) × (climbFrom v moved inodeSlots at₀ ≡ climbFrom v moved left at)
 
 abbrev μ-loop : tie.MeasureT-loop
 μ-loop v moved at₀ left₀ at left = left

@@ -3,6 +3,7 @@
 use Prim.Native.Nat.{_-_}
 use native.Mathlib.Omega.{arith}
 use Rattle.fscrypt.specs.Names.{nameBytes}
+use Rattle.volume.specs.Volume.{entrySlots}
 use Rattle.volume.specs.Lookup.{isNamed, entryNamed}
 use Rattle.lookup.proofs.Search.{Searched, begun, found, passed, ended}
 use Rattle.lookup.proofs.Shape.{shaped}
@@ -11,10 +12,10 @@ use Rattle.lookup.proofs.entries.entry_named.Statement.{statement}
 use Rattle.lookup.proofs.entries.entry_named.Tie as tie
 
 abbrev Inv-loop : tie.InvT-loop
-Inv-loop p s v i₀ i = Searched (isNamed p (nameBytes s)) (v .entries) 64 i
+Inv-loop p s v i₀ i = Searched (isNamed p (nameBytes s)) (v .entries) entrySlots i
 
 abbrev μ-loop : tie.MeasureT-loop
-μ-loop p s v i₀ i = 64 - i
+μ-loop p s v i₀ i = entrySlots - i
 
 loop-holds : tie.Need-loop-holds Inv-loop μ-loop
 loop-holds c = begun (shaped (c .args .t1) (c .good .0) .entries)

@@ -2,6 +2,7 @@
 -- The measure is how many slots are left. Assumes nothing.
 use Prim.Native.Nat.{_-_}
 use native.Mathlib.Omega.{arith}
+use Rattle.volume.specs.Volume.{entrySlots}
 use Rattle.volume.specs.Lookup.{isIn, firstChild}
 use Rattle.lookup.proofs.Search.{Searched, begun, found, passed, ended}
 use Rattle.lookup.proofs.Shape.{shaped}
@@ -10,10 +11,10 @@ use Rattle.lookup.proofs.entries.first_child.Statement.{statement}
 use Rattle.lookup.proofs.entries.first_child.Tie as tie
 
 abbrev Inv-loop : tie.InvT-loop
-Inv-loop p v i₀ i = Searched (isIn p) (v .entries) 64 i
+Inv-loop p v i₀ i = Searched (isIn p) (v .entries) entrySlots i
 
 abbrev μ-loop : tie.MeasureT-loop
-μ-loop p v i₀ i = 64 - i
+μ-loop p v i₀ i = entrySlots - i
 
 loop-holds : tie.Need-loop-holds Inv-loop μ-loop
 loop-holds c = begun (shaped (c .args .t1) (c .good .0) .entries)

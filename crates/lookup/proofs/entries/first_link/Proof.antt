@@ -2,6 +2,7 @@
 -- The measure is how many slots are left. Assumes nothing.
 use Prim.Native.Nat.{_-_}
 use native.Mathlib.Omega.{arith}
+use Rattle.volume.specs.Volume.{entrySlots}
 use Rattle.volume.specs.Lookup.{isLink, firstLink}
 use Rattle.lookup.proofs.Search.{Searched, begun, found, passed, ended}
 use borrow.Author.Needs.{needs}
@@ -9,10 +10,10 @@ use Rattle.lookup.proofs.entries.first_link.Statement.{statement}
 use Rattle.lookup.proofs.entries.first_link.Tie as tie
 
 abbrev Inv-loop : tie.InvT-loop
-Inv-loop n entries i₀ i = Searched (isLink n) entries 64 i
+Inv-loop n entries i₀ i = Searched (isLink n) entries entrySlots i
 
 abbrev μ-loop : tie.MeasureT-loop
-μ-loop n entries i₀ i = 64 - i
+μ-loop n entries i₀ i = entrySlots - i
 
 loop-holds : tie.Need-loop-holds Inv-loop μ-loop
 loop-holds c = begun (search needs)

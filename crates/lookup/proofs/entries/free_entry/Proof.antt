@@ -2,6 +2,7 @@
 -- The measure is how many slots are left. Assumes nothing.
 use Prim.Native.Nat.{_-_}
 use native.Mathlib.Omega.{arith}
+use Rattle.volume.specs.Volume.{entrySlots}
 use Rattle.volume.specs.Lookup.{isVacant, freeEntry}
 use Rattle.lookup.proofs.Search.{Searched, begun, found, passed, ended}
 use Rattle.lookup.proofs.Shape.{shaped}
@@ -10,10 +11,10 @@ use Rattle.lookup.proofs.entries.free_entry.Statement.{statement}
 use Rattle.lookup.proofs.entries.free_entry.Tie as tie
 
 abbrev Inv-loop : tie.InvT-loop
-Inv-loop v slot₀ slot = Searched isVacant (v .entries) 64 slot
+Inv-loop v slot₀ slot = Searched isVacant (v .entries) entrySlots slot
 
 abbrev μ-loop : tie.MeasureT-loop
-μ-loop v slot₀ slot = 64 - slot
+μ-loop v slot₀ slot = entrySlots - slot
 
 loop-holds : tie.Need-loop-holds Inv-loop μ-loop
 loop-holds c = begun (shaped (c .args .t1) (c .good .0) .entries)

@@ -2,6 +2,7 @@
 use mathlib.Core.Path.{ap}
 use Prim.Native.Nat.{ℕ}
 use lib.Dec.{ltb}
+use Rattle.volume.specs.Volume.{entrySlots}
 use borrow.Author.Needs.{needs}
 use Rattle.lookup.proofs.entries.has_entries.Statement.{statement}
 use Rattle.lookup.proofs.entries.has_entries.Tie as tie
@@ -10,7 +11,7 @@ first-child-requires : tie.Need-first-child-requires
 first-child-requires c κs = search needs
 
 returns : tie.Need-returns
-returns c = ap (λ (n : ℕ). ltb n 64) (c .first-child .ensures)
+returns c = ap (λ (n : ℕ). ltb n entrySlots) (c .first-child .ensures)
 
 pub has-entries-spec : {M : Type 1} → statement M
 has-entries-spec = tie.close (tie.spec first-child-requires returns)

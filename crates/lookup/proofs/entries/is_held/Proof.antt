@@ -2,6 +2,7 @@
 use mathlib.Core.Path.{ap}
 use Prim.Native.Nat.{ℕ}
 use lib.Dec.{ltb}
+use Rattle.volume.specs.Volume.{entrySlots}
 use borrow.Author.Needs.{needs}
 use Rattle.lookup.proofs.entries.is_held.Statement.{statement}
 use Rattle.lookup.proofs.entries.is_held.Tie as tie
@@ -10,7 +11,7 @@ first-link-requires : tie.Need-first-link-requires
 first-link-requires c κs = search needs
 
 returns : tie.Need-returns
-returns c = ap (λ (n : ℕ). ltb n 64) (c .first-link .ensures)
+returns c = ap (λ (n : ℕ). ltb n entrySlots) (c .first-link .ensures)
 
 pub is-held-spec : {M : Type 1} → statement M
 is-held-spec = tie.close (tie.spec first-link-requires returns)

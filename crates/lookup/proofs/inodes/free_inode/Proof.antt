@@ -2,6 +2,7 @@
 -- The measure is how many slots are left. Assumes nothing.
 use Prim.Native.Nat.{_-_}
 use native.Mathlib.Omega.{arith}
+use Rattle.volume.specs.Volume.{inodeSlots}
 use Rattle.volume.specs.Lookup.{isFree, freeInode}
 use Rattle.lookup.proofs.Search.{Searched, begun, found, passed, ended}
 use Rattle.lookup.proofs.Shape.{shaped}
@@ -10,10 +11,10 @@ use Rattle.lookup.proofs.inodes.free_inode.Statement.{statement}
 use Rattle.lookup.proofs.inodes.free_inode.Tie as tie
 
 abbrev Inv-loop : tie.InvT-loop
-Inv-loop v i₀ i = Searched isFree (v .inodes) 64 i
+Inv-loop v i₀ i = Searched isFree (v .inodes) inodeSlots i
 
 abbrev μ-loop : tie.MeasureT-loop
-μ-loop v i₀ i = 64 - i
+μ-loop v i₀ i = inodeSlots - i
 
 loop-holds : tie.Need-loop-holds Inv-loop μ-loop
 loop-holds c = begun (shaped (c .args .t1) (c .good .0) .inodes)

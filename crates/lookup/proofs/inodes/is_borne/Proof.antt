@@ -2,6 +2,7 @@
 use mathlib.Core.Path.{ap}
 use Prim.Native.Nat.{ℕ}
 use lib.Dec.{ltb}
+use Rattle.volume.specs.Volume.{inodeSlots}
 use borrow.Author.Needs.{needs}
 use Rattle.lookup.proofs.inodes.is_borne.Statement.{statement}
 use Rattle.lookup.proofs.inodes.is_borne.Tie as tie
@@ -10,7 +11,7 @@ nonce-holder-requires : tie.Need-nonce-holder-requires
 nonce-holder-requires c κs = search needs
 
 returns : tie.Need-returns
-returns c = ap (λ (n : ℕ). ltb n 64) (c .nonce-holder .ensures)
+returns c = ap (λ (n : ℕ). ltb n inodeSlots) (c .nonce-holder .ensures)
 
 pub is-borne-spec : {M : Type 1} → statement M
 is-borne-spec = tie.close (tie.spec nonce-holder-requires returns)

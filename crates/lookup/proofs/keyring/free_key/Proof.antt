@@ -2,6 +2,7 @@
 -- The measure is how many slots are left. Assumes nothing.
 use Prim.Native.Nat.{_-_}
 use native.Mathlib.Omega.{arith}
+use Rattle.volume.specs.Volume.{keySlots}
 use Rattle.volume.specs.Lookup.{isFreeKey, freeKeySlot}
 use Rattle.lookup.proofs.Search.{Searched, begun, found, passed, ended}
 use Rattle.lookup.proofs.Shape.{shaped}
@@ -10,10 +11,10 @@ use Rattle.lookup.proofs.keyring.free_key.Statement.{statement}
 use Rattle.lookup.proofs.keyring.free_key.Tie as tie
 
 abbrev Inv-loop : tie.InvT-loop
-Inv-loop v i₀ i = Searched isFreeKey (v .keys) 8 i
+Inv-loop v i₀ i = Searched isFreeKey (v .keys) keySlots i
 
 abbrev μ-loop : tie.MeasureT-loop
-μ-loop v i₀ i = 8 - i
+μ-loop v i₀ i = keySlots - i
 
 loop-holds : tie.Need-loop-holds Inv-loop μ-loop
 loop-holds c = begun (shaped (c .args .t1) (c .good .0) .keys)
