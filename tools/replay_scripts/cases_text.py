@@ -281,6 +281,12 @@ def long_lines_skipped():
                   (b"show 0", _PLAIN_A)])
 
 
+def long_lines_return():
+    """More blanks than the limit, then a carriage return that is not the line's last byte: it is a word. At the end of the line it is none."""
+    blanks = b" " * (LINE_MAX + 50)
+    return build([(b"show 0", "no-entry"), (blanks + b"\rx", "malformed"), (blanks + b"\r", None)]).script()
+
+
 def long_lines_blank():
     """A comment after more blanks than the limit, and no newline at the end."""
     case = build([(b"show 0", "no-entry"), (b"#".rjust(LINE_MAX + 100, b"\t"), None)])

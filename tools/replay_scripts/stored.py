@@ -45,6 +45,7 @@ def _texts():
     yield "text-line-limit", cases_text.long_lines_at_the_limit().script()
     yield "text-long-comment", cases_text.long_lines_skipped().script()
     yield "text-long-blanks", cases_text.long_lines_blank()
+    yield "text-long-blanks-and-return", cases_text.long_lines_return()
 
 
 def _random():

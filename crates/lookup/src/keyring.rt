@@ -8,7 +8,7 @@ use volume::Volume;
 ghost use mathlib.Core.Path.{_≡_};
 ghost use Rattle.policy.specs.Policies.{isMasterKeySize};
 ghost use Rattle.volume.specs.Volume.{noKey};
-ghost use Rattle.volume.specs.Lookup.{isFreeKey, onRing, keySlotOf, freeKeySlot, keyOf, keyPresent, keyNeeded};
+ghost use Rattle.volume.specs.Lookup.{isFreeKey, onKeyring, keySlotOf, freeKeySlot, keyOf, keyPresent, keyNeeded};
 
 // A free slot: all zeros.
 pub fn blank_key() -> Key
@@ -31,8 +31,8 @@ fn is_free_key(k: Key) -> bool
 }
 
 // Whether the slot is in use and has this descriptor.
-fn on_ring(k: Key, d: [u8; 8]) -> bool
-    ensures { λ r. ⌜ r ≡ onRing d k ⌝ }
+fn on_keyring(k: Key, d: [u8; 8]) -> bool
+    ensures { λ r. ⌜ r ≡ onKeyring d k ⌝ }
 {
     if k.len == 0 {
         return false;
@@ -48,7 +48,7 @@ pub fn key_slot(v: Volume, d: [u8; 8]) -> usize
     let mut i: usize = 0;
     while i < KEY_SLOTS {
         let k = v.keys[i];
-        if on_ring(k, d) {
+        if on_keyring(k, d) {
             return i;
         }
         i += 1;

@@ -1,6 +1,6 @@
 -- The laws of script.
 pub mod Picks
-pub mod Places
+pub mod Stores
 pub mod Digits
 pub mod Hex
 pub mod Lines

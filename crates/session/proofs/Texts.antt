@@ -17,7 +17,7 @@ use Rattle.volume.specs.declared.Form.{Form}
 use Rattle.volume.specs.declared.Form.the-variants.{Plain, Decrypted, Encoded}
 use Rattle.volume.specs.declared.ShownEntry.{ShownEntry}
 use Rattle.script.proofs.Digits.{decimal-length}
-use Rattle.script.proofs.Places.{then-sets}
+use Rattle.script.proofs.Stores.{then-sets}
 use Rattle.script.specs.Strings.{nameText}
 use Rattle.script.proofs.Hex.{nameText-length}
 use Rattle.script.specs.Text.{text}

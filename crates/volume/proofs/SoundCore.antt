@@ -101,10 +101,10 @@ turn-key x y r = (r .1, r .0, sym (r .2))
 
 -- ---- the three tables
 
-pub record RingOk (ks : List Key) : Type 0 where
+pub record KeyringOk (ks : List Key) : Type 0 where
   pub key-slots : length ks ≡ keySlots
   pub keys-ok : (k : ℕ) → KeyOk (getD ks k noKey)
-  pub ring : Apart SameKey ks noKey
+  pub descriptors : Apart SameKey ks noKey
 
 pub record NodesOk (is : List Inode) : Type 0 where
   pub inode-slots : length is ≡ inodeSlots
@@ -120,7 +120,7 @@ pub record JoinsOk (is : List Inode) (es : List Entry) : Type 0 where
   pub nodes : Apart (SameNode is) es noEntry
 
 pub record Core (v : Volume) : Type 0 where
-  pub ring-ok : RingOk (v .keys)
+  pub keyring-ok : KeyringOk (v .keys)
   pub nodes-ok : NodesOk (v .inodes)
   pub joined : JoinsOk (v .inodes) (v .entries)
 
@@ -168,7 +168,7 @@ pub set-core : (v : Volume) → Core v → (e : ℕ) (x : Entry) → (InUse x �
     → ((j : ℕ) → j ≢ e → SameName (slotAt v j) x → ⊥) → ((j : ℕ) → j ≢ e → SameNode (v .inodes) (slotAt v j) x → ⊥)
     → Core (withEntries v (set (v .entries) e x))
 set-core v ok e x good freed name node = record {
-  ring-ok = ok .ring-ok;
+  keyring-ok = ok .keyring-ok;
   nodes-ok = ok .nodes-ok;
   joined = record {
     entry-slots = length-set (v .entries) e x ∙ ok .joined .entry-slots;
@@ -200,7 +200,7 @@ pub put-core : (v : Volume) → Core v → (i : ℕ) (node : Inode) → i ≢ 0 
     → ((j : ℕ) → SameNonce (nodeAt v j) node → ⊥)
     → Core (withInodes v (set (v .inodes) i node))
 put-core v ok i node nz w entries kinds fresh = record {
-  ring-ok = ok .ring-ok;
+  keyring-ok = ok .keyring-ok;
   nodes-ok = record {
     inode-slots = length-set (v .inodes) i node ∙ ok .nodes-ok .inode-slots;
     root-is = getD-set-other (v .inodes) i 0 node noInode (λ q. nz (sym q)) ∙ ok .nodes-ok .root-is;
@@ -222,9 +222,9 @@ pub keys-core : (v : Volume) → Core v → (k : ℕ) (key : Key) → KeyOk key 
 keys-core v ok k key w fresh = record {
   nodes-ok = ok .nodes-ok;
   joined = ok .joined;
-  ring-ok = record {
-    key-slots = length-set (v .keys) k key ∙ ok .ring-ok .key-slots;
-    keys-ok = all-set (λ j x. KeyOk x) (v .keys) noKey k key (λ j. no-key-ok) (λ j ne. ok .ring-ok .keys-ok j) w;
-    ring = apart-set SameKey (v .keys) noKey k key turn-key (λ y r. true≢false (r .0)) (ok .ring-ok .ring) fresh;
+  keyring-ok = record {
+    key-slots = length-set (v .keys) k key ∙ ok .keyring-ok .key-slots;
+    keys-ok = all-set (λ j x. KeyOk x) (v .keys) noKey k key (λ j. no-key-ok) (λ j ne. ok .keyring-ok .keys-ok j) w;
+    descriptors = apart-set SameKey (v .keys) noKey k key turn-key (λ y r. true≢false (r .0)) (ok .keyring-ok .descriptors) fresh;
   };
 }

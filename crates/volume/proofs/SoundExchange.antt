@@ -110,7 +110,7 @@ module _ (v : Volume) (ok : Inv v) where
         → isUnderItself v (slotAt v a .inode) (slotAt v b .parent) ≡ false → Inv (withEntries v swapped)
     exchanges pa pb ca cb = record {
       core = record {
-        ring-ok = ok .core .ring-ok;
+        keyring-ok = ok .core .keyring-ok;
         nodes-ok = ok .core .nodes-ok;
         joined = record {
           entry-slots = lengths ∙ ok .core .joined .entry-slots;

@@ -15,7 +15,7 @@ use Rattle.errno.specs.declared.Checked.the-variants.{Fine}
 use Rattle.fscrypt.specs.Cipher.{Cipher}
 use Rattle.volume.specs.Volume.{keySlots, noKey, keySlot}
 use Rattle.volume.specs.Request.{addKey, removeKey}
-use Rattle.volume.specs.Lookup.{onRing, keySlotOf, freeKeySlot}
+use Rattle.volume.specs.Lookup.{onKeyring, keySlotOf, freeKeySlot}
 use Rattle.volume.specs.Checks.{isBadKeyLength, addKeyCheck}
 use Rattle.volume.specs.Step.{effect}
 use Rattle.volume.specs.Sound.{keyAt}
@@ -42,8 +42,8 @@ module _ (C : Cipher) (v : Volume) (ok : Inv v) where
       record {
         core = keys-core v (ok .core) (freeKeySlot v) (keySlot d k) (key-ok d k dl h₁)
             (λ j ne r.
-            let t : onRing d (keyAt v j) ≡ true = ap₂ _&&_ (ap not (r .0)) (same-of-eq (r .2)) in
-            true≢false (sym t ∙ search-none (onRing d) (v .keys) noKey keySlots (ok .core .ring-ok .key-slots) refl h₂ j));
+            let t : onKeyring d (keyAt v j) ≡ true = ap₂ _&&_ (ap not (r .0)) (same-of-eq (r .2)) in
+            true≢false (sym t ∙ search-none (onKeyring d) (v .keys) noKey keySlots (ok .core .keyring-ok .key-slots) refl h₂ j));
         held = ok .held;
         tree = ok .tree;
       }

@@ -57,13 +57,13 @@ module _ (v : Volume) (ok : Inv v) where
   inv-sound =
       let c = ok .core in
       record {
-        key-slots = c .ring-ok .key-slots;
+        key-slots = c .keyring-ok .key-slots;
         inode-slots = c .nodes-ok .inode-slots;
         entry-slots = c .joined .entry-slots;
-        key-lengths = λ k. c .ring-ok .keys-ok k .size;
-        key-sizes = λ k. c .ring-ok .keys-ok k .bytes-there;
-        descriptors = λ k. c .ring-ok .keys-ok k .descriptor;
-        descriptors-apart = λ j k a b d. c .ring-ok .ring j k (a, b, d);
+        key-lengths = λ k. c .keyring-ok .keys-ok k .size;
+        key-sizes = λ k. c .keyring-ok .keys-ok k .bytes-there;
+        descriptors = λ k. c .keyring-ok .keys-ok k .descriptor;
+        descriptors-apart = λ j k a b d. c .keyring-ok .descriptors j k (a, b, d);
         root-directory = ap (λ (n : Inode). n .kind) (c .nodes-ok .root-is);
         root-plain = ap (λ (n : Inode). n .encrypted) (c .nodes-ok .root-is);
         kinds = λ i. c .nodes-ok .inodes-ok i .kinds;
@@ -87,10 +87,10 @@ module _ (v : Volume) (ok : Inv v) where
         nonces-apart = λ i j a b n. c .nodes-ok .nonces i j (a, b, n);
         plain-names = λ e u. c .joined .entries-ok e u .name .plain;
         encrypted-lengths = λ e u. c .joined .entries-ok e u .name .sealed;
-        free-keys = λ k. c .ring-ok .keys-ok k .free;
+        free-keys = λ k. c .keyring-ok .keys-ok k .free;
         free-inodes = λ i t. c .nodes-ok .inodes-ok i .free (eqb-true t);
         free-entries = c .joined .free-entries;
-        unused-key-bytes = λ k. c .ring-ok .keys-ok k .unused;
+        unused-key-bytes = λ k. c .keyring-ok .keys-ok k .unused;
         unused-name-bytes = λ e. sized e .1;
         no-context = λ i. c .nodes-ok .inodes-ok i .bare;
       }
@@ -103,11 +103,11 @@ module _ (v : Volume) (s : Sound v) where
 
   sound-core : Core v
   sound-core = record {
-    ring-ok = record {
+    keyring-ok = record {
       key-slots = s .key-slots;
       keys-ok = λ k.
           record { size = s .key-lengths k; bytes-there = s .key-sizes k; descriptor = s .descriptors k; free = s .free-keys k; unused = s .unused-key-bytes k };
-      ring = λ j k r. s .descriptors-apart j k (r .0) (r .1) (r .2);
+      descriptors = λ j k r. s .descriptors-apart j k (r .0) (r .1) (r .2);
     };
     nodes-ok = record {
       inode-slots = s .inode-slots;
@@ -184,10 +184,10 @@ fresh-unused e u = true≢false (sym (ap isVacant (fresh-entry e)) ∙ u)
 fresh-inv : Inv fresh
 fresh-inv = record {
   core = record {
-    ring-ok = record {
+    keyring-ok = record {
       key-slots = fresh-sizes .0;
       keys-ok = λ k. subst KeyOk (sym (fresh-key k)) no-key-ok;
-      ring = λ j k r. absurd (true≢false (sym (ap isFreeKey (fresh-key j)) ∙ r .0));
+      descriptors = λ j k r. absurd (true≢false (sym (ap isFreeKey (fresh-key j)) ∙ r .0));
     };
     nodes-ok = record {
       inode-slots = fresh-sizes .1;

@@ -18,7 +18,7 @@ use Rattle.policy.specs.Policies.{isMasterKeySize, nameKeySize}
 use Rattle.fscrypt.specs.Names.{isEmpty, nameCheck, padded, encrypted}
 use Rattle.fscrypt.proofs.Padding.{pad-fits, length-padded, padded-bytes, name-fits, plain-name}
 use Rattle.volume.specs.Volume.{inodeSlots, noKey, noInode, noEntry, nameOf}
-use Rattle.volume.specs.Lookup.{isFreeKey, onRing, keySlotOf, freeKeySlot, keyOf, masterKey, descriptorOf, keyPresent, keyNeeded, inodeAt, isDirectory, entryAt, isVacant, freeEntry, isIn, isNamed, entryNamed, firstChild, isLink, firstLink, parentOf, climbFrom, isMoved, isUnderItself}
+use Rattle.volume.specs.Lookup.{isFreeKey, onKeyring, keySlotOf, freeKeySlot, keyOf, masterKey, descriptorOf, keyPresent, keyNeeded, inodeAt, isDirectory, entryAt, isVacant, freeEntry, isIn, isNamed, entryNamed, firstChild, isLink, firstLink, parentOf, climbFrom, isMoved, isUnderItself}
 use Rattle.volume.specs.Checks.{directoryCheck, derivedKey, nameKey, stored, formIn}
 use Rattle.volume.specs.Sound.{slotAt}
 use Rattle.volume.specs.TwoRuns.{Names}
@@ -86,7 +86,7 @@ module _ (S : Setting) where
 
     pub slot-twin : (d : Bytes) → keySlotOf (enc S v) d ≡ keySlotOf v d
     unfolding keySlotOf
-    slot-twin d = firstAt-map (encKey S) (onRing d) (onRing d) (v .keys) noKey (λ i. refl)
+    slot-twin d = firstAt-map (encKey S) (onKeyring d) (onKeyring d) (v .keys) noKey (λ i. refl)
 
     pub free-key-twin : freeKeySlot (enc S v) ≡ freeKeySlot v
     unfolding freeKeySlot
@@ -115,13 +115,13 @@ module _ (S : Setting) where
     -- the key of an inode whose key is present
     present-key : (i : Inode) → keyPresent v i ≡ true → masterKey (enc S v) (descriptorOf i) ≡ S .key (descriptorOf i)
     unfolding keyPresent isMasterKeySize keyOf keySlotOf
-    present-key i h = go (firstAt-ends (onRing d) (v .keys) noKey)
+    present-key i h = go (firstAt-ends (onKeyring d) (v .keys) noKey)
       where
         d : Bytes
         d = descriptorOf i
 
         k : Key
-        k = getD (v .keys) (firstAt (onRing d) (v .keys)) noKey
+        k = getD (v .keys) (firstAt (onKeyring d) (v .keys)) noKey
 
         sixty-four : k .len ≡ 64
         sixty-four = eqb-true h
@@ -129,10 +129,10 @@ module _ (S : Setting) where
         used : isFreeKey k ≡ false
         used = ap (λ (n : ℕ). eqb n 0) sixty-four
 
-        go : (onRing d k ≡ true) ⊎ (k ≡ noKey) → masterKey (enc S v) d ≡ S .key d
+        go : (onKeyring d k ≡ true) ⊎ (k ≡ noKey) → masterKey (enc S v) d ≡ S .key d
         go (inl p) =
             let s : k .descriptor ≡ d = same-eq (k .descriptor) d (and-right (not (isFreeKey k)) (same (k .descriptor) d) p) in
-            ap (λ (y : Key). take (y .len) (y .bytes)) (key-twin d) ∙ key-master k (ok .keys-ok (firstAt (onRing d) (v .keys))) used ∙ ap (S .key) s
+            ap (λ (y : Key). take (y .len) (y .bytes)) (key-twin d) ∙ key-master k (ok .keys-ok (firstAt (onKeyring d) (v .keys))) used ∙ ap (S .key) s
         go (inr p) = absurd (false≢true (sym used ∙ ap isFreeKey p))
 
     pub name-key : (dir : Inode) → keyPresent v dir ≡ true → nameKey (S .cipher) (enc S v) dir ≡ keyFor S dir

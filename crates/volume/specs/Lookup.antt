@@ -22,12 +22,12 @@ use Rattle.volume.specs.declared.Met.the-variants.{Moved, Root, Neither}
 abbrev pub isFreeKey : Key → Bool
 isFreeKey k = eqb (k .len) 0
 
-abbrev pub onRing : Bytes → Key → Bool
-onRing d k = not (isFreeKey k) && same (k .descriptor) d
+abbrev pub onKeyring : Bytes → Key → Bool
+onKeyring d k = not (isFreeKey k) && same (k .descriptor) d
 
 -- the slot of the key with this descriptor, or the number of slots
 unfoldable pub keySlotOf : Volume → Bytes → ℕ
-keySlotOf v d = firstAt (onRing d) (v .keys)
+keySlotOf v d = firstAt (onKeyring d) (v .keys)
 
 -- "A new key, thing or place takes the lowest free slot or number"
 unfoldable pub freeKeySlot : Volume → ℕ

@@ -3,7 +3,7 @@
 use Prim.Native.Nat.{_-_}
 use native.Mathlib.Omega.{arith}
 use Rattle.volume.specs.Volume.{keySlots}
-use Rattle.volume.specs.Lookup.{onRing, keySlotOf}
+use Rattle.volume.specs.Lookup.{onKeyring, keySlotOf}
 use Rattle.lookup.proofs.Search.{Searched, begun, found, passed, ended}
 use Rattle.lookup.proofs.Shape.{shaped}
 use borrow.Author.Needs.{needs}
@@ -11,7 +11,7 @@ use Rattle.lookup.proofs.keyring.key_slot.Statement.{statement}
 use Rattle.lookup.proofs.keyring.key_slot.Tie as tie
 
 abbrev Inv-loop : tie.InvT-loop
-Inv-loop d v i₀ i = Searched (onRing d) (v .keys) keySlots i
+Inv-loop d v i₀ i = Searched (onKeyring d) (v .keys) keySlots i
 
 abbrev μ-loop : tie.MeasureT-loop
 μ-loop d v i₀ i = keySlots - i
@@ -25,12 +25,12 @@ mul-k c = search needs
 element-copy-out-k : tie.Need-element-copy-out-k Inv-loop μ-loop
 element-copy-out-k c = search needs
 
-on-ring-requires : tie.Need-on-ring-requires Inv-loop μ-loop
-on-ring-requires c κs = search needs
+on-keyring-requires : tie.Need-on-keyring-requires Inv-loop μ-loop
+on-keyring-requires c κs = search needs
 
 returns : tie.Need-returns Inv-loop μ-loop
 unfolding keySlotOf
-returns c = found (c .before .before .before .before .loop .inv) (omega arith) _ (c .before .on-ring .ensures) (c .if1 .taken)
+returns c = found (c .before .before .before .before .loop .inv) (omega arith) _ (c .before .on-keyring .ensures) (c .if1 .taken)
 
 add-i : tie.Need-add-i Inv-loop μ-loop
 add-i c = search needs
@@ -39,7 +39,7 @@ loop-less : tie.Need-loop-less Inv-loop μ-loop
 loop-less c = search needs
 
 loop-again : tie.Need-loop-again Inv-loop μ-loop
-loop-again c = passed (c .before .before .before .before .loop .inv) (omega arith) _ (c .before .on-ring .ensures) (c .if1 .left)
+loop-again c = passed (c .before .before .before .before .loop .inv) (omega arith) _ (c .before .on-keyring .ensures) (c .if1 .left)
 
 returns-2 : tie.Need-returns-2 Inv-loop μ-loop
 unfolding keySlotOf
@@ -54,7 +54,7 @@ key-slot-spec =
     loop-holds
     mul-k
     element-copy-out-k
-    on-ring-requires
+    on-keyring-requires
     returns
     add-i
     loop-less

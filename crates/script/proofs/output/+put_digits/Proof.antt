@@ -2,7 +2,7 @@
 use mathlib.Core.Path.{refl, sym}
 use native.Mathlib.Omega.{arith}
 use Rattle.script.proofs.Digits.{last-none, last-one, last-more, last-length}
-use Rattle.script.proofs.Places.{then-sets, same-sets}
+use Rattle.script.proofs.Stores.{then-sets, same-sets}
 use borrow.Author.Needs.{needs}
 use Prim.Native.Nat.{ℕ, _<_, _+_, _-_, _/_, _%_}
 use mathlib.Core.List.{[], _∷_}

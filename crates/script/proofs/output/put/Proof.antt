@@ -6,7 +6,7 @@ use denote.Ref.{now}
 use native.Mathlib.Omega.{arith}
 use mathlib.Core.Path.{_≡_, refl, _∙_, ap}
 use lib.Seq.{sets, take-all}
-use Rattle.script.proofs.Places.{sets-next}
+use Rattle.script.proofs.Stores.{sets-next}
 use borrow.Author.Needs.{needs}
 use Rattle.script.proofs.output.put.Statement.{statement}
 use Rattle.script.proofs.output.put.Tie as tie

@@ -3,7 +3,7 @@ use Prim.Native.Nat.{_<_, _/_, _%_, ℕ, _+_, _*_, _≤_, _-_}
 use mathlib.Core.List.{_++_, List, _∷_, []}
 use lib.ListN.{getD, length-set, length-take, set, length, take}
 use Rattle.script.specs.Strings.{hexDigit, toHex}
-use Rattle.script.proofs.Places.{sets-two}
+use Rattle.script.proofs.Stores.{sets-two}
 use denote.Ref.{now}
 use Rattle.script.proofs.Hex.{toHex-next, toHex-length}
 use native.Mathlib.Omega.{arith}

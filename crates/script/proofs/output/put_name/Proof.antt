@@ -1,6 +1,6 @@
 -- `put_name`: `=` and the bytes, or the digits. Assumes nothing.
 use mathlib.Core.List.{[], _∷_}
-use Rattle.script.proofs.Places.{then-sets, same-sets}
+use Rattle.script.proofs.Stores.{then-sets, same-sets}
 use mathlib.Core.Path.{sym, _∙_}
 use denote.Ref.{now}
 use Rattle.script.proofs.Hex.{name-plain, name-hex}

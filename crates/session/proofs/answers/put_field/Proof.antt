@@ -3,7 +3,7 @@ use native.Mathlib.Omega.{arith}
 use denote.Ref.{now}
 use Rattle.script.specs.Text.{text}
 use Rattle.script.specs.Numbers.{decimal}
-use Rattle.script.proofs.Places.{then-sets}
+use Rattle.script.proofs.Stores.{then-sets}
 use Rattle.script.proofs.Digits.{decimal-length}
 use borrow.Author.Needs.{needs}
 use Rattle.session.proofs.answers.put_field.Statement.{statement}

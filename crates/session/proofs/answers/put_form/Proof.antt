@@ -4,7 +4,7 @@ use denote.Ref.{now}
 use Rattle.script.specs.Text.{text}
 use Rattle.volume.specs.declared.Form.{Form}
 use Rattle.session.specs.Answers.{formName}
-use Rattle.script.proofs.Places.{same-sets}
+use Rattle.script.proofs.Stores.{same-sets}
 use borrow.Author.Needs.{needs}
 use Rattle.session.proofs.answers.put_form.Statement.{statement}
 use Rattle.session.proofs.answers.put_form.Tie as tie

@@ -7,7 +7,7 @@ use Prim.Native.Nat.{ℕ}
 use mathlib.Core.List.{_++_}
 use Rattle.script.specs.Text.{text}
 use Rattle.session.specs.Answers.{field}
-use Rattle.script.proofs.Places.{then-sets}
+use Rattle.script.proofs.Stores.{then-sets}
 use Rattle.session.proofs.Texts.{begun, rewritten, field-length}
 use borrow.Author.Needs.{needs}
 use Rattle.session.proofs.answers.put_head.Statement.{statement}

@@ -6,7 +6,7 @@ use Rattle.script.proofs.Digits.{decimal-length}
 use denote.Ref.{now}
 use Rattle.script.specs.Text.{text}
 use Rattle.script.specs.Numbers.{decimal}
-use Rattle.script.proofs.Places.{then-sets}
+use Rattle.script.proofs.Stores.{then-sets}
 use Rattle.session.proofs.Texts.{begun}
 use borrow.Author.Needs.{needs}
 use Rattle.session.proofs.answers.put_number.Statement.{statement}

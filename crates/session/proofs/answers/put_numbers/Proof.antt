@@ -5,7 +5,7 @@ use denote.Ref.{now}
 use Rattle.script.specs.Text.{text}
 use Rattle.script.specs.Numbers.{decimal}
 use mathlib.Core.List.{_++_}
-use Rattle.script.proofs.Places.{then-sets}
+use Rattle.script.proofs.Stores.{then-sets}
 use Rattle.script.proofs.Digits.{decimal-length}
 use Rattle.session.proofs.Texts.{begun}
 use borrow.Author.Needs.{needs}

@@ -7,7 +7,7 @@ use mathlib.Core.List.{_++_}
 use Rattle.script.specs.Text.{text}
 use Rattle.script.specs.Strings.{nameText}
 use Rattle.session.specs.Answers.{formName, field}
-use Rattle.script.proofs.Places.{then-sets, same-sets}
+use Rattle.script.proofs.Stores.{then-sets, same-sets}
 use Rattle.session.proofs.Texts.{field-length, form-length}
 use borrow.Author.Needs.{needs}
 use Rattle.session.proofs.answers.put_tail.Statement.{statement}

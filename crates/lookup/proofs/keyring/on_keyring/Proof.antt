@@ -1,8 +1,8 @@
--- `on_ring` is `onRing`: the first test that fails ends it. Assumes nothing.
+-- `on_keyring` is `onKeyring`: the first test that fails ends it. Assumes nothing.
 use Rattle.lists.proofs.Predicates.{predicates}
 use borrow.Author.Needs.{needs}
-use Rattle.lookup.proofs.keyring.on_ring.Statement.{statement}
-use Rattle.lookup.proofs.keyring.on_ring.Tie as tie
+use Rattle.lookup.proofs.keyring.on_keyring.Statement.{statement}
+use Rattle.lookup.proofs.keyring.on_keyring.Tie as tie
 
 returns : tie.Need-returns
 returns c = search predicates depth 12
@@ -19,7 +19,7 @@ same-bytes-requires c κs = search needs
 returns-2 : tie.Need-returns-2
 returns-2 c = search predicates depth 12
 
-pub on-ring-spec : {M : Type 1} → statement M
-on-ring-spec =
+pub on-keyring-spec : {M : Type 1} → statement M
+on-keyring-spec =
     tie.close
     (tie.spec returns slice-aggregate-same-bytes slice-aggregate-same-bytes-2 same-bytes-requires returns-2)
