@@ -12,6 +12,6 @@ wordBytes w = w .r0 ∷ w .r1 ∷ w .r2 ∷ w .r3 ∷ []
 unfoldable pub stateBytes : State → List ℕ
 stateBytes s = wordBytes (s .c0) ++ wordBytes (s .c1) ++ wordBytes (s .c2) ++ wordBytes (s .c3)
 
--- the list with the bytes xs in place of its own from a place on
+-- the list with the bytes xs in place of its own from a position on
 unfoldable pub putAt : List ℕ → ℕ → List ℕ → List ℕ
 putAt l i xs = take i l ++ xs ++ drop (i + length xs) l

@@ -5,7 +5,7 @@ use Rattle.aes.specs.Words.{mixColumn, invMixColumn, subWord, invSubWord
 use Rattle.aes.specs.declared.Word.{Word}
 use Rattle.aes.specs.declared.State.{State}
 
--- 3.4 the state whose 16 bytes start at a place of a list, column after column; past the list's end it has zeros
+-- 3.4 the state whose 16 bytes start at a position of a list, column after column; past the list's end it has zeros
 unfoldable pub stateAt : List ℕ → ℕ → State
 stateAt l i = record { c0 = wordAt l i; c1 = wordAt l (i + 4); c2 = wordAt l (i + 8); c3 = wordAt l (i + 12) }
 

@@ -6,7 +6,7 @@ use Rattle.field.specs.Field.{_⊕_, dot}
 use Rattle.field.specs.SBox.{sBox, invSBox}
 use Rattle.aes.specs.declared.Word.{Word}
 
--- the word whose bytes start at a place of a list; past the list's end it has zeros
+-- the word whose bytes start at a position of a list; past the list's end it has zeros
 unfoldable pub wordAt : List ℕ → ℕ → Word
 wordAt l i = record { r0 = getD l i 0; r1 = getD l (i + 1) 0; r2 = getD l (i + 2) 0; r3 = getD l (i + 3) 0 }
 

@@ -21,6 +21,6 @@ letters (a ∷ b ∷ c ∷ rest) = letter (a / 4) ∷ letter (a % 4 * 16 + b / 1
 unfoldable pub hexDigit : ℕ → ℕ
 hexDigit n = cond (ltb n 10) (n + 48) (n + 87)
 
--- "ciphertext of at most 160 bytes is written in letters. Longer: `_`, the letters of the first 160 bytes, and the place as two lower case hex digits."
+-- "ciphertext of at most 160 bytes is written in letters .. Longer: `_`, the letters of the first 160 bytes, and the place as two lower case hex digits."
 unfoldable pub encoded : Bytes → ℕ → Bytes
 encoded s entry = cond (leb (length s) 160) (letters s) (95 ∷ (letters (take 160 s) ++ (hexDigit (entry / 16 % 16) ∷ hexDigit (entry % 16) ∷ [])))

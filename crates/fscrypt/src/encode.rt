@@ -54,7 +54,7 @@ fn letter_at(s: &[u8], j: usize) -> u8
     letter(byte(s, i + 2) % 64)
 }
 
-// The letters of a string of at most 160 bytes, put into a buffer from a place on.
+// The letters of a string of at most 160 bytes, put into a buffer from a position on.
 fn put_letters(into: [u8; 255], at: usize, s: &[u8]) -> [u8; 255]
     requires { ⌜ (at ≤ 1) × (length (now s) ≤ 160) ⌝ }
     ensures { λ r. ⌜ r ≡ take at into ++ Encoded.letters (now (s .entry)) ++ drop (at + length (Encoded.letters (now (s .entry)))) into ⌝ }

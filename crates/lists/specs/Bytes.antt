@@ -27,7 +27,7 @@ abbrev pub laidOver : Bytes → Bytes → Bytes
 laidOver b s = s ++ drop (length s) b
 
 module _ {A : Type 0} where
-  -- the place of the first element that passes the test, or the length of the list
+  -- the position of the first element that passes the test, or the length of the list
   unfoldable pub firstAt : (A → Bool) → List A → ℕ
   firstAt p [] = zero
   firstAt p (x ∷ xs) = cond (p x) zero (suc (firstAt p xs))

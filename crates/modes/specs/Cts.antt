@@ -27,7 +27,7 @@ cbcInvStep w nr c o = addRoundKey (invCipher w nr o) c
 abbrev pub cbcInvNext : State → State → State → State
 cbcInvNext c o p = o
 
--- ---- the last two blocks, P_(n-1) at place i and P_n after it, which change places
+-- ---- the last two blocks, P_(n-1) at position i and P_n after it, which change order
 
 -- C_n, and as many bytes of C_(n-1) as P_n has. P_n is padded with zeros, which is how a block is read past the end of the text
 unfoldable pub lastTwo : List ℕ → ℕ → State → List ℕ → ℕ → List ℕ
@@ -35,7 +35,7 @@ lastTwo w nr c l i =
     let a : State = cbcStep w nr c (stateAt l i) in
     stateBytes (cbcStep w nr a (stateAt l (i + 16))) ++ take (length l - (i + 16)) (stateBytes a)
 
--- the block at a place of a list, with the bytes of s for those that lie past the list's end
+-- the block at a position of a list, with the bytes of s for those that lie past the list's end
 unfoldable pub filledWord : List ℕ → ℕ → Word → Word
 filledWord l i w = record { r0 = getD l i (w .r0); r1 = getD l (i + 1) (w .r1); r2 = getD l (i + 2) (w .r2); r3 = getD l (i + 3) (w .r3) }
 

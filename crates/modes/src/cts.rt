@@ -36,7 +36,7 @@ fn word(l: &[u8], at: usize, other: Word) -> Word
     }
 }
 
-// The block at a place, with the bytes of another for what lies past the end.
+// The block at a position, with the bytes of another for what lies past the end.
 fn fill(l: &[u8], at: usize, other: State) -> State
     requires { ⌜ at < 8000 ⌝ }
     ensures { λ r. ⌜ r ≡ filled (now (l .entry)) at other ⌝ }
@@ -88,7 +88,7 @@ fn store_last_two(l: &mut [u8], at: usize, b: State, a: State)
     store_front(l, at + 16, a);
 }
 
-// The last two blocks, which start at a place: they change places, and the second is cut.
+// The last two blocks, which start at a position: they change order, and the second is cut.
 fn last_two(sbox: &[u8; 256], w: &[u8], nr: usize, c: State, l: &mut [u8], at: usize)
     requires { ⌜ Keyed sBoxTable (now sbox) (now w) nr × (at + 16 ≤ length (now l)) × (length (now l) ≤ at + 32) × (length (now l) ≤ 4096) ⌝ }
     ensures { λ _. ⌜ now (l .exit) ≡ take at (now (l .entry)) ++ lastTwo (now (w .entry)) nr c (now (l .entry)) at ⌝ }

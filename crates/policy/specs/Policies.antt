@@ -21,7 +21,7 @@ use Rattle.policy.specs.declared.ContextRead.{ContextRead}
 unfoldable pub isPair : ℕ → ℕ → Bool
 isPair contents names = eqb contents 1 && eqb names 4
 
--- "Valid: version 0; contents 1 with names 4; flags 0 to 3. All else is EINVAL."
+-- "Valid: version 0; contents 1 .. with names 4 ..; flags 0 to 3 .. All else is EINVAL."
 unfoldable pub isValid : Policy → Bool
 isValid p = eqb (p .version) 0 && (isPair (p .contents) (p .names) && leb (p .flags) 3)
 
@@ -30,7 +30,7 @@ unfoldable pub samePolicy : Policy → Policy → Bool
 samePolicy a b =
     eqb (a .version) (b .version) && (eqb (a .contents) (b .contents) && (eqb (a .names) (b .names) && (eqb (a .flags) (b .flags) && same (a .descriptor) (b .descriptor))))
 
--- ---- the sizes of keys, by the pair of modes
+-- ---- the sizes of keys, by the pair of modes (one pair so far, so the policy is not looked at)
 
 -- "A policy's key is present when its descriptor is on the ring with a key of 64 bytes."
 unfoldable pub isMasterKeySize : Policy → ℕ → Bool

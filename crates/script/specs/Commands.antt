@@ -18,7 +18,7 @@ use Rattle.script.specs.declared.Sort.the-variants.{First, Second, Text,
 use Rattle.script.specs.declared.Shape.{Shape}
 use Rattle.script.specs.declared.Args.{Args}
 
--- ---- the request's word: "Request words are taken letter for letter."
+-- ---- the request's word, letter for letter
 
 unfoldable pub contentsVerb : Bytes → Verb
 contentsVerb w =

@@ -1,4 +1,4 @@
--- Byte strings: "an even count of hex digits of either case; or `=` and then the bytes themselves; or `-`, the empty string." Assumes nothing.
+-- Byte strings: "an even count of hex digits of either case; or `=` and then the bytes themselves ..; or `-`, the empty string." Assumes nothing.
 use Prim.Native.Nat.{ℕ, _+_, _-_, _*_, _/_, _%_}
 use mathlib.Core.Bool.{Bool, cond, not, _&&_, _||_}
 use mathlib.Core.List.{List, [], _∷_}
@@ -47,7 +47,7 @@ bytesOf s = cond (isQuoted s) (drop 1 s) (fromHex s)
 unfoldable pub hexDigit : ℕ → ℕ
 hexDigit n = cond (ltb n 10) (48 + n) (87 + n)
 
--- bytes in hex: "Hex is printed in lower case."
+-- bytes in hex, in lower case
 unfoldable pub toHex : Bytes → Bytes
 toHex [] = []
 toHex (b ∷ s) = hexDigit (b / 16) ∷ hexDigit (b % 16) ∷ toHex s

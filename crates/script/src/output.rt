@@ -1,4 +1,4 @@
-// The texts of answers, put into a buffer one after the other. Each function puts its text at a place, and returns the place after it.
+// The texts of answers, put into a buffer one after the other. Each function puts its text at a position, and returns the position after it.
 use crate::ranges;
 ghost use mathlib.Core.Path.{_≡_};
 ghost use mathlib.Core.List.{[], _∷_};

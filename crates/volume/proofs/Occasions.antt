@@ -55,18 +55,18 @@ occasions =
     ∷ (addKey (descriptor 7) (zeros 5), refused 22)
     -- remove key
     ∷ (removeKey (descriptor 9), refused 126)
-    -- set policy: thing before bytes, bytes before another policy
+    -- set policy: inode before bytes, bytes before another policy
     ∷ (setPolicy (inode 50) [] (nonce 1), refused 2)
     ∷ (setPolicy (inode 1) (0 ∷ 1 ∷ 4 ∷ 4 ∷ descriptor 7) (nonce 1), refused 22)
     ∷ (setPolicy (inode 1) (policy 8) (nonce 1), refused 17)
     -- the policy that it has is a success
     ∷ (setPolicy (inode 1) (policy 7) (nonce 1), done)
-    -- the root before nonempty; a non-folder, and nonempty, before the nonce
+    -- the root before nonempty; a non-directory, and nonempty, before the nonce
     ∷ (setPolicy (inode 0) (policy 7) (nonce 1), refused 1)
     ∷ (setPolicy (inode 3) (policy 7) (nonce 1), refused 20)
     ∷ (setPolicy (inode 4) (policy 7) (nonce 1), refused 39)
     ∷ (setPolicy (inode 10) (policy 7) (nonce 1), refused 76)
-    -- get policy: thing before context
+    -- get policy: inode before context
     ∷ (getPolicy (inode 50), refused 2)
     ∷ (getPolicy (inode 3), refused 61)
     -- names: empty; too long before a bad byte; a bad byte and dot names before the parent
@@ -76,7 +76,7 @@ occasions =
     ∷ (find (inode 3) (97 ∷ 47 ∷ []), refused 22)
     ∷ (find (inode 3) (46 ∷ []), refused 22)
     ∷ (find (inode 3) (46 ∷ 46 ∷ []), refused 22)
-    -- create: name, kind, parent there, parent a folder, key, name taken, nonce; each fails with the next
+    -- create: name, kind, parent there, parent a directory, key, name taken, nonce; each fails with the next
     ∷ (create (inode 50) 9 (zeros 256) (nonce 1), refused 36)
     ∷ (create (inode 50) 9 (122 ∷ []) (nonce 1), refused 22)
     ∷ (create (inode 0) 0 (122 ∷ []) (nonce 1), refused 22)
@@ -85,7 +85,7 @@ occasions =
     ∷ (create (inode 6) 2 (121 ∷ []) (nonce 1), refused 126)
     ∷ (create (inode 1) 2 (97 ∷ []) (nonce 1), refused 17)
     ∷ (create (inode 1) 2 (122 ∷ []) (nonce 1), refused 76)
-    -- link: name, thing, parent, linked folder, key, policy, name taken
+    -- link: name, inode, parent, linked directory, key, policy, name taken
     ∷ (link (inode 50) (inode 3) (zeros 256), refused 36)
     ∷ (link (inode 50) (inode 3) (122 ∷ []), refused 2)
     ∷ (link (inode 4) (inode 3) (122 ∷ []), refused 20)
@@ -93,7 +93,7 @@ occasions =
     ∷ (link (inode 3) (inode 6) (122 ∷ []), refused 126)
     ∷ (link (inode 3) (inode 1) (97 ∷ []), refused 1)
     ∷ (link (inode 2) (inode 1) (97 ∷ []), refused 17)
-    -- rename: name, place, parent, key of the old parent, of the new, policy, folder under itself, name taken, its own name too
+    -- rename: name, entry, parent, key of the old parent, of the new, policy, directory under itself, name taken, its own name too
     ∷ (rename (entry 50) (inode 3) (zeros 256), refused 36)
     ∷ (rename (entry 50) (inode 3) (122 ∷ []), refused 2)
     ∷ (rename (entry 8) (inode 3) (122 ∷ []), refused 20)
@@ -104,7 +104,7 @@ occasions =
     -- the new parent itself
     ∷ (rename (entry 0) (inode 1) (97 ∷ []), refused 22)
     ∷ (rename (entry 2) (inode 0) (112 ∷ []), refused 17)
-    -- exchange: places, keys, policies, folders, each for both sides
+    -- exchange: entries, keys, policies, directories, each for both sides
     ∷ (exchange (entry 8) (entry 50), refused 2)
     ∷ (exchange (entry 50) (entry 8), refused 2)
     ∷ (exchange (entry 1) (entry 8), refused 126)
@@ -118,18 +118,18 @@ occasions =
     ∷ (exchange (entry 0) (entry 10), refused 22)
     ∷ (exchange (entry 10) (entry 0), refused 22)
     ∷ (exchange (entry 2) (entry 2), done)
-    -- remove: place before entries, of the root, which a free record names
+    -- remove: entry before entries, of the root, which a free record names
     ∷ (remove (entry 50), refused 2)
     ∷ (remove (entry 0), refused 39)
-    -- find: parent there, parent a folder, key, match
+    -- find: parent there, parent a directory, key, match
     ∷ (find (inode 50) (122 ∷ []), refused 2)
     ∷ (find (inode 9) (122 ∷ []), refused 20)
     ∷ (find (inode 6) (122 ∷ []), refused 126)
     ∷ (find (inode 0) (122 ∷ []), refused 2)
-    -- show: buffer, place, name
+    -- show: buffer, entry, name
     ∷ (show (entry 50) (zeros 254), refused 34)
     ∷ (show (entry 50) (zeros 255), refused 2)
-    -- seal and open: block length, thing, kind, context, key
+    -- seal and open: block length, inode, kind, context, key
     ∷ (seal (inode 50) 0 (zeros 16), refused 22)
     ∷ (seal (inode 50) 0 (zeros 4096), refused 2)
     ∷ (seal (inode 4) 0 (zeros 4096), refused 22)

@@ -22,6 +22,7 @@ use Rattle.volume.specs.declared.Met.the-variants.{Moved, Root, Neither}
 abbrev pub isFreeKey : Key → Bool
 isFreeKey k = eqb (k .len) 0
 
+-- the key is there, under this descriptor ("on the ring")
 abbrev pub onKeyring : Bytes → Key → Bool
 onKeyring d k = not (isFreeKey k) && same (k .descriptor) d
 
@@ -56,12 +57,14 @@ keyNeeded v i = i .encrypted && not (keyPresent v i)
 abbrev pub inodeAt : Volume → InodeNumber → Inode
 inodeAt v n = getD (v .inodes) (n .0) noInode
 
+-- no inode (document 01: thing) has this number
 abbrev pub isFree : Inode → Bool
 isFree i = eqb (i .kind) 0
 
 abbrev pub isDirectory : Inode → Bool
 isDirectory i = eqb (i .kind) 1
 
+-- the lowest number that is free
 unfoldable pub freeInode : Volume → ℕ
 freeInode v = firstAt isFree (v .inodes)
 
@@ -80,9 +83,11 @@ isBorne v x = ltb (nonceHolder v x) inodeSlots
 abbrev pub entryAt : Volume → EntryNumber → Entry
 entryAt v n = getD (v .entries) (n .0) noEntry
 
+-- no entry (document 01: place) has this number
 abbrev pub isVacant : Entry → Bool
 isVacant e = eqb (e .len) 0
 
+-- the lowest number that is free
 unfoldable pub freeEntry : Volume → ℕ
 freeEntry v = firstAt isVacant (v .entries)
 
@@ -98,12 +103,14 @@ isNamed p s e = isIn p e && same (nameOf e) s
 unfoldable pub entryNamed : Volume → InodeNumber → Bytes → ℕ
 entryNamed v p s = firstAt (isNamed p s) (v .entries)
 
+-- "name taken"
 abbrev pub isTaken : Volume → InodeNumber → Bytes → Bool
 isTaken v p s = ltb (entryNamed v p s) entrySlots
 
 unfoldable pub firstChild : Volume → InodeNumber → ℕ
 firstChild v i = firstAt (isIn i) (v .entries)
 
+-- "folder has entries"
 abbrev pub hasEntries : Volume → InodeNumber → Bool
 hasEntries v i = ltb (firstChild v i) entrySlots
 

@@ -44,7 +44,7 @@ childOf dir kind x = cond (isNonceNeeded dir kind) (encryptedInode kind (dir .co
 unfoldable pub withoutUnheld : List Inode → List Entry → InodeNumber → List Inode
 withoutUnheld is es i = cond (isHeld es i) is (set is (i .0) noInode)
 
--- the buffer that a request lends
+-- the buffer that a request lends, as far as it is followed here; policies and names, lent for reading, stand in the request, and no call can write them
 unfoldable pub lent : Request → Bytes
 lent (addKey d k) = k
 lent (removeKey d) = []

@@ -37,6 +37,7 @@ pub const INODE_SLOTS: usize = 64;
 
 pub const ENTRY_SLOTS: usize = 64;
 
+// A volume (document 01: shelf).
 pub struct Volume {
     pub keys: [Key; KEY_SLOTS],
     pub inodes: [Inode; INODE_SLOTS],
