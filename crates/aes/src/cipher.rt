@@ -1,3 +1,4 @@
+// Cipher and InvCipher, FIPS 197 sections 5.1 and 5.3, over a key schedule.
 use crate::State;
 use crate::states;
 ghost use mathlib.Core.Path.{_≡_};

@@ -1,3 +1,4 @@
+// KeyExpansion, FIPS 197 section 5.2, over the number of words of the key.
 use crate::Word;
 use crate::words;
 use field::gf;

@@ -1,3 +1,4 @@
+// The state and its transformations, FIPS 197 sections 5.1.1 to 5.1.4 and 5.3.1 to 5.3.4.
 use crate::State;
 use crate::Word;
 use crate::words;

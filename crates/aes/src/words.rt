@@ -1,3 +1,4 @@
+// Words of four bytes, and their sums and substitutions, FIPS 197.
 use crate::Word;
 use field::gf;
 use field::sbox;

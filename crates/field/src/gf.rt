@@ -1,3 +1,4 @@
+// Sums and products of bytes, FIPS 197 section 4.
 ghost use mathlib.Core.Path.{_≡_};
 ghost use Rattle.field.specs.Field.{_•_, xTimes, dot};
 

@@ -1,3 +1,4 @@
+// The S-box and its inverse as tables, FIPS 197 sections 5.1.1 and 5.3.2.
 ghost use mathlib.Core.Path.{_≡_};
 ghost use Prim.Native.Nat.{_<_};
 ghost use Rattle.field.specs.SBox.{sBoxTable, invSBoxTable, sBox, invSBox};

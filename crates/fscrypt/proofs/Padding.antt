@@ -17,7 +17,7 @@ use Rattle.errno.specs.declared.Checked.{Checked}
 use Rattle.errno.specs.declared.Checked.the-variants.{Fine, Refused}
 use Rattle.errno.proofs.Chains.{passed-test}
 use Rattle.fscrypt.specs.Cipher.{Cipher, Lawful}
-use Rattle.fscrypt.specs.Names.{isEmpty, isLong, isNul, isNulOrSlash, isByte, isDotName, isBadName, nameCheck, multiple, rounded, paddedLength, padded, encrypted, beforeNul, isAllNul, paddingCheck, readPadded, nameBytes, packed}
+use Rattle.fscrypt.specs.Names.{isEmpty, isLong, isNul, isNulOrSlash, isNotNul, isDotName, isBadName, nameCheck, multiple, rounded, paddedLength, padded, encrypted, beforeNul, isAllNul, paddingCheck, readPadded, nameBytes, packed}
 use Rattle.fscrypt.specs.declared.Name.{Name}
 use Rattle.fscrypt.specs.declared.NameRead.{NameRead}
 
@@ -115,14 +115,14 @@ first-nul (x ∷ xs) k h = go (isNul x) (eqb x 47) h (first-nul xs k)
     go false true h ih = absurd (omega arith)
     go false false h ih = ap suc (ih (omega arith))
 
-first-byte : (k : ℕ) → firstAt isByte (zeros k) ≡ k
+first-byte : (k : ℕ) → firstAt isNotNul (zeros k) ≡ k
 unfolding firstAt zeros
 first-byte zero = refl
 first-byte (suc k) = ap suc (first-byte k)
 
 zeros-nul : (k : ℕ) → isAllNul (zeros k) ≡ true
 unfolding isAllNul
-zeros-nul k = le-leb (length (zeros k)) (firstAt isByte (zeros k)) (omega (arith, length-zeros k, first-byte k))
+zeros-nul k = le-leb (length (zeros k)) (firstAt isNotNul (zeros k)) (omega (arith, length-zeros k, first-byte k))
 
 module _ (flags : ℕ) (n : Bytes) (h : nameCheck n ≡ Fine) where
   padding-at : firstAt isNul (padded flags n) ≡ length n

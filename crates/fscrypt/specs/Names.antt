@@ -73,12 +73,12 @@ encrypted C key flags n = C .encryptName key (padded flags n)
 unfoldable pub beforeNul : Bytes → Bytes
 beforeNul b = take (firstAt isNul b) b
 
-abbrev pub isByte : ℕ → Bool
-isByte b = not (isNul b)
+abbrev pub isNotNul : ℕ → Bool
+isNotNul b = not (isNul b)
 
 -- no byte but NULs
 unfoldable pub isAllNul : Bytes → Bool
-isAllNul b = leb (length b) (firstAt isByte b)
+isAllNul b = leb (length b) (firstAt isNotNul b)
 
 -- "If the rest isn't all NUL, or the name isn't a plain name, or its padded length isn't the stored length, the answer is EUCLEAN."
 unfoldable pub paddingCheck : ℕ → Bytes → Checked

@@ -11,7 +11,7 @@ ghost use lib.ListN.{length, take, drop};
 ghost use Rattle.errno.specs.Refusals.{isFine};
 ghost use Rattle.lists.specs.Bytes.{zeros, firstAt, laidOver};
 ghost use Rattle.fscrypt.specs.Cipher.{fscrypt, encryptName, decryptName};
-ghost use Rattle.fscrypt.specs.Names.{isNul, isNulOrSlash, isByte, isDotName, isBadName, nameCheck, multiple, paddedLength, padded, isAllNul, beforeNul, readPadded, nameBytes, packed};
+ghost use Rattle.fscrypt.specs.Names.{isNul, isNulOrSlash, isNotNul, isDotName, isBadName, nameCheck, multiple, paddedLength, padded, isAllNul, beforeNul, readPadded, nameBytes, packed};
 ghost use Rattle.fscrypt.specs.Names;
 
 // Plain names

@@ -1,3 +1,4 @@
+// CBC with ciphertext stealing CS3, the addendum to NIST SP 800-38A.
 use crate::xts;
 use aes::State;
 use aes::Word;

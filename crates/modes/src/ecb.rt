@@ -1,3 +1,4 @@
+// ECB of whole blocks, NIST SP 800-38A section 6.1.
 use aes::cipher;
 use aes::states;
 ghost use mathlib.Core.Path.{_≡_};

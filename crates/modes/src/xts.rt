@@ -1,3 +1,4 @@
+// XTS of whole blocks, IEEE 1619 section 5.
 use aes::State;
 use aes::Word;
 use aes::cipher;

@@ -7,13 +7,13 @@ use borrow.Author.Tests.{eq-eqb, ne-eqb}
 use borrow.Author.Needs.{needs}
 use Rattle.lists.proofs.Predicates.{not-of-true, not-of-false}
 use Rattle.lists.proofs.Loops.{Scanned, hit, miss, scanned-none, scanned-all}
-use Rattle.fscrypt.specs.Names.{isByte}
+use Rattle.fscrypt.specs.Names.{isNotNul}
 use Rattle.fscrypt.proofs.Packing.{some-byte, no-byte}
 use Rattle.fscrypt.proofs.fname.is_all_nul.Statement.{statement}
 use Rattle.fscrypt.proofs.fname.is_all_nul.Tie as tie
 
 abbrev Inv-loop : tie.InvT-loop
-Inv-loop s i₀ i = (i ≤ length s) × Scanned isByte s i
+Inv-loop s i₀ i = (i ≤ length s) × Scanned isNotNul s i
 
 abbrev μ-loop : tie.MeasureT-loop
 μ-loop s i₀ i = length s - i

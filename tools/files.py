@@ -1,0 +1,66 @@
+#!/usr/bin/env python3
+"""Writes docs/FILES.md: each crate with its files, and the first comment of each.
+
+    tools/files.py            write it
+    tools/files.py --check    say whether it is what would be written, and exit 1 where it is not
+
+Needs Debian's python3 alone, and runs from any directory.
+"""
+import re
+import sys
+from pathlib import Path
+
+ROOT = Path(__file__).resolve().parent.parent
+PAGE = ROOT / "docs" / "FILES.md"
+
+
+def subject(path):
+    """The first sentence of the comment that a file begins with."""
+    words = []
+    for line in path.read_text().splitlines():
+        found = re.match(r"(?:--|//)\s?(.*)", line)
+        if not found:
+            break
+        words.append(found.group(1).strip())
+    text = " ".join(words).split(" Assumes nothing")[0]
+    return re.split(r"(?<=[.:;])\s", text)[0].rstrip(":;")
+
+
+def crates():
+    """The crates in the order of crates.txt, with what each is built on."""
+    for line in (ROOT / "crates.txt").read_text().splitlines():
+        if line and not line.startswith("#"):
+            name, below = line.split(":")
+            yield name.strip(), below.split()
+
+
+def page():
+    """The whole page. Proofs of single functions, which stand at proofs/FUNCTION/Proof.antt, are counted and not listed."""
+    out = ["# Crates and files", "", "Written by `tools/files.py`. A crate is built on those named after it and on what these are built on.", ""]
+    known = dict(crates())
+    for name, below in known.items():
+        direct = [x for x in below if not any(x in known.get(y, []) for y in below)]
+        out.append(f"## {name}" + (f" (on {', '.join(direct)})" if direct else ""))
+        out.append("")
+        root = ROOT / "crates" / name
+        for path in sorted(root.glob("src/*.rt")) + sorted(root.glob("specs/*.antt")) + sorted(root.glob("proofs/*.antt")):
+            if path.name != "Lib.antt":
+                out.append(f"- `{path.relative_to(root)}`: {subject(path)}")
+        single = len(list(root.glob("proofs/**/Proof.antt")))
+        edits = len(list(root.glob("must-fail/*.edit")))
+        out.append(f"- proofs of single functions: {single}; must-fail edits: {edits}")
+        out.append("")
+    return "\n".join(out)
+
+
+def main(words):
+    if words == []:
+        PAGE.write_text(page())
+    elif words == ["--check"]:
+        sys.exit(0 if PAGE.read_text() == page() else "files.py: docs/FILES.md is not what would be written")
+    else:
+        print(__doc__, file=sys.stderr)
+        sys.exit(2)
+
+
+main(sys.argv[1:])
