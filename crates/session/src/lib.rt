@@ -1,5 +1,5 @@
 // A session of the request script: a line's answer is what specs/Lines.antt says, its text and the volume after it.
-pub mod answers;
+mod answers;
 mod calls;
 mod input;
 mod lines;
