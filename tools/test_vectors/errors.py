@@ -1,0 +1,19 @@
+"""The errnos of the answers, what stands for them while an answer is computed, and how the script stops."""
+
+import sys
+
+ENOENT, EINVAL, ENAMETOOLONG, EUCLEAN = 2, 22, 36, 117
+
+
+class Malformed(Exception):
+    pass
+
+
+class Refused(Exception):
+    def __init__(self, errno):
+        super().__init__(errno)
+        self.errno = errno
+
+
+def stop(why):
+    sys.exit(f"vectors.py: {why}")
