@@ -1,5 +1,6 @@
 -- Names shown without their key are distinct in a directory: two entries of different numbers and different stored names are shown under different names.
 -- Letters can be read back; no letter is the mark of a long name; and a long name ends with its entry's number. Assumes nothing.
+use Rattle.lists.proofs.Digits.{hex-low, hex-high}
 use mathlib.Core.Path.{_≡_, refl, sym, ap, ap₂, _∙_}
 use mathlib.Core.Logic.{_≢_}
 use mathlib.Core.Bool.{cond}
@@ -10,9 +11,9 @@ use native.Mathlib.Omega.{arith}
 use lib.ListN.{length, getD}
 use lib.Dec.{ltb}
 use borrow.Author.Tests.{lt-ltb, le-ltb}
-use Rattle.lists.specs.Bytes.{Bytes, ByteList}
-use Rattle.fscrypt.specs.Encoded.{letter, letters, hexDigit, encoded}
-use Rattle.fscrypt.proofs.Lettering.{first-0, letter-upper, letter-lower, letter-digit, letter-sign, hex-low, hex-high, encoded-short}
+use Rattle.lists.specs.Bytes.{Bytes, ByteList, hexDigit}
+use Rattle.fscrypt.specs.Encoded.{letter, letters, encoded}
+use Rattle.fscrypt.proofs.Lettering.{first-0, letter-upper, letter-lower, letter-digit, letter-sign, encoded-short}
 use Rattle.fscrypt.proofs.Shown.{encoded-long, long-mark}
 
 -- ---- a letter is read back

@@ -9,8 +9,8 @@ use native.Mathlib.Omega.{arith}
 use lib.ListN.{length, take, drop, getD, set, length-append, length-drop}
 use lib.Seq.{getD-drop, length-take-le, take-length, set-at, append-snoc, paste, paste-suc}
 use borrow.Author.Tests.{lt-ltb, le-ltb, le-leb, lt-leb}
-use Rattle.lists.specs.Bytes.{Bytes, zeros}
-use Rattle.fscrypt.specs.Encoded.{letter, letters, hexDigit, encoded}
+use Rattle.lists.specs.Bytes.{Bytes, zeros, hexDigit}
+use Rattle.fscrypt.specs.Encoded.{letter, letters, encoded}
 use Rattle.fscrypt.specs.Names.{packed}
 use Rattle.fscrypt.specs.declared.Name.{Name}
 
@@ -133,14 +133,6 @@ letter-sign n h =
     let f : 26 ≤ n = omega arith in
     let g : 52 ≤ n = omega arith in
     rw (le-ltb n 26 f, le-ltb n 52 g, le-ltb n 62 h)
-
-pub hex-low : (n : ℕ) → n < 10 → n + 48 ≡ hexDigit n
-unfolding hexDigit
-hex-low n h = rw (lt-ltb n 10 h)
-
-pub hex-high : (n : ℕ) → 10 ≤ n → n + 87 ≡ hexDigit n
-unfolding hexDigit
-hex-high n h = rw (le-ltb n 10 h)
 
 -- ---- the two forms of an encoded name
 

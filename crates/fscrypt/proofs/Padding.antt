@@ -9,7 +9,7 @@ use lib.ListN.{length, take, drop, length-append, length-replicate}
 use lib.Seq.{take-append-seam, drop-append-seam, length-take-le}
 use lib.Dec.{eqb, leb, ltb}
 use borrow.Author.Tests.{leb-true, leb-false, ltb-false, le-leb}
-use Rattle.lists.specs.Bytes.{Bytes, ByteList, zeros, firstAt}
+use Rattle.lists.specs.Bytes.{Bytes, ByteList, zeros, firstAt, isEmpty}
 use Rattle.lists.proofs.Tests.{or-left, eqb-self}
 use Rattle.errno.specs.Refusals.{_⇒_, _>>_, isFine}
 use Rattle.errno.specs.declared.Errno.the-variants.{ENOENT, ENAMETOOLONG, EINVAL, EUCLEAN}
@@ -17,7 +17,7 @@ use Rattle.errno.specs.declared.Checked.{Checked}
 use Rattle.errno.specs.declared.Checked.the-variants.{Fine, Refused}
 use Rattle.errno.proofs.Chains.{passed-test}
 use Rattle.fscrypt.specs.Cipher.{Cipher, Lawful}
-use Rattle.fscrypt.specs.Names.{isEmpty, isLong, isNul, isNulOrSlash, isNotNul, isDotName, isBadName, nameCheck, multiple, rounded, paddedLength, padded, encrypted, beforeNul, isAllNul, paddingCheck, readPadded, nameBytes, packed}
+use Rattle.fscrypt.specs.Names.{isLong, isNul, isNulOrSlash, isNotNul, isDotName, isBadName, nameCheck, multiple, rounded, paddedLength, padded, encrypted, beforeNul, isAllNul, paddingCheck, readPadded, nameBytes, packed}
 use Rattle.fscrypt.specs.declared.Name.{Name}
 use Rattle.fscrypt.specs.declared.NameRead.{NameRead}
 

@@ -1,5 +1,6 @@
 -- A stored name as it is shown without its key: its length, that its bytes are those of a plain name, and what of it does not depend on the stored bytes.
 -- Every letter and hex digit is a fair byte, and so is each byte of a list made of them. Assumes nothing.
+use Rattle.lists.proofs.Digits.{hex-low, hex-high}
 use mathlib.Core.Path.{_≡_, refl, sym, ap, ap₂, _∙_}
 use mathlib.Core.List.{[], _∷_, _++_}
 use Prim.Native.Nat.{ℕ, zero, suc, _+_, _-_, _*_, _/_, _%_, _≤_, _<_}
@@ -7,9 +8,9 @@ use native.Mathlib.Decide.{decLt}
 use native.Mathlib.Omega.{arith}
 use lib.ListN.{length, take, getD, length-append, List·getD-eq-default}
 use lib.Seq.{getD-append-add}
-use Rattle.lists.specs.Bytes.{Bytes, ByteList}
-use Rattle.fscrypt.specs.Encoded.{letter, letters, hexDigit, encoded}
-use Rattle.fscrypt.proofs.Lettering.{length-letters, length-front, letter-upper, letter-lower, letter-digit, letter-sign, hex-low, hex-high, encoded-short}
+use Rattle.lists.specs.Bytes.{Bytes, ByteList, hexDigit}
+use Rattle.fscrypt.specs.Encoded.{letter, letters, encoded}
+use Rattle.fscrypt.proofs.Lettering.{length-letters, length-front, letter-upper, letter-lower, letter-digit, letter-sign, encoded-short}
 use Rattle.fscrypt.proofs.Lettering as lettering
 
 -- ---- lengths

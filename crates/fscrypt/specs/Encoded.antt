@@ -4,7 +4,7 @@ use mathlib.Core.Bool.{Bool, true, false, cond}
 use mathlib.Core.List.{List, [], _∷_, _++_}
 use lib.ListN.{length, take}
 use lib.Dec.{leb, ltb}
-use Rattle.lists.specs.Bytes.{Bytes}
+use Rattle.lists.specs.Bytes.{Bytes, hexDigit}
 
 -- "letters `A-Z a-z 0-9 + ,` for 0 to 63"
 unfoldable pub letter : ℕ → ℕ
@@ -16,10 +16,6 @@ letters [] = []
 letters (a ∷ []) = letter (a / 4) ∷ letter (a % 4 * 16) ∷ []
 letters (a ∷ b ∷ []) = letter (a / 4) ∷ letter (a % 4 * 16 + b / 16) ∷ letter (b % 16 * 4) ∷ []
 letters (a ∷ b ∷ c ∷ rest) = letter (a / 4) ∷ letter (a % 4 * 16 + b / 16) ∷ letter (b % 16 * 4 + c / 64) ∷ letter (c % 64) ∷ letters rest
-
--- a lower case hex digit
-unfoldable pub hexDigit : ℕ → ℕ
-hexDigit n = cond (ltb n 10) (n + 48) (n + 87)
 
 -- "ciphertext of at most 160 bytes is written in letters .. Longer: `_`, the letters of the first 160 bytes, and the place as two lower case hex digits."
 unfoldable pub encoded : Bytes → ℕ → Bytes

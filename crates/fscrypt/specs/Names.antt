@@ -4,7 +4,7 @@ use mathlib.Core.Bool.{Bool, true, false, cond, not, _&&_, _||_}
 use mathlib.Core.List.{List, [], _∷_, _++_}
 use lib.ListN.{length, take, drop}
 use lib.Dec.{eqb, leb, ltb}
-use Rattle.lists.specs.Bytes.{Bytes, same, zeros, firstAt}
+use Rattle.lists.specs.Bytes.{Bytes, same, zeros, firstAt, isEmpty}
 use Rattle.errno.specs.Refusals.{_⇒_, _>>_, isFine}
 use Rattle.errno.specs.declared.Errno.the-variants.{ENOENT, ENAMETOOLONG, EINVAL, EUCLEAN}
 use Rattle.errno.specs.declared.Checked.{Checked}
@@ -14,9 +14,6 @@ use Rattle.fscrypt.specs.declared.Name.{Name}
 use Rattle.fscrypt.specs.declared.NameRead.{NameRead}
 
 -- ---- plain names: "1 to 255 bytes, no NUL, no `/`, and isn't `.` or `..`"
-
-abbrev pub isEmpty : Bytes → Bool
-isEmpty n = eqb (length n) 0
 
 abbrev pub isLong : Bytes → Bool
 isLong n = ltb 255 (length n)

@@ -69,16 +69,6 @@ fn put_letters(into: [u8; 255], at: usize, s: &[u8]) -> [u8; 255]
     bytes
 }
 
-fn hex_digit(n: u8) -> u8
-    requires { ⌜ n < 16 ⌝ }
-    ensures { λ r. ⌜ r ≡ Encoded.hexDigit n ⌝ }
-{
-    if n < 10 {
-        return n + 48;
-    }
-    n + 87
-}
-
 // A name of more than 160 bytes: the letters of the first 160, between a mark and the entry's number.
 fn encode_long(s: &[u8], entry: u64) -> Name
     requires { ⌜ 160 < length (now s) ⌝ }
@@ -86,8 +76,8 @@ fn encode_long(s: &[u8], entry: u64) -> Name
 {
     let mut bytes = put_letters(fname::zero_name(), 1, &s[..160]);
     bytes[0] = 95;
-    bytes[215] = hex_digit((entry / 16 % 16) as u8);
-    bytes[216] = hex_digit((entry % 16) as u8);
+    bytes[215] = lists::hex_digit((entry / 16 % 16) as u8);
+    bytes[216] = lists::hex_digit((entry % 16) as u8);
     Name {
         len: 217,
         bytes: bytes,

@@ -4,3 +4,4 @@ pub mod Tables
 pub mod Loops
 pub mod Predicates
 pub mod Slots
+pub mod Digits

@@ -1,9 +1,9 @@
 -- Byte strings, and the one search in a table. Assumes nothing.
-use Prim.Native.Nat.{ℕ, zero, suc, _<_}
+use Prim.Native.Nat.{ℕ, zero, suc, _+_, _<_}
 use mathlib.Core.Bool.{Bool, true, false, cond, _&&_}
 use mathlib.Core.List.{List, [], _∷_, _++_}
 use lib.ListN.{getD, replicate, length, drop}
-use lib.Dec.{eqb}
+use lib.Dec.{eqb, ltb}
 
 abbrev pub Bytes : Type 0
 Bytes = List ℕ
@@ -18,6 +18,13 @@ same [] [] = true
 same [] (y ∷ ys) = false
 same (x ∷ xs) [] = false
 same (x ∷ xs) (y ∷ ys) = eqb x y && same xs ys
+
+abbrev pub isEmpty : Bytes → Bool
+isEmpty b = eqb (length b) 0
+
+-- a lower case hex digit
+unfoldable pub hexDigit : ℕ → ℕ
+hexDigit n = cond (ltb n 10) (n + 48) (n + 87)
 
 unfoldable pub zeros : ℕ → Bytes
 zeros n = replicate n 0

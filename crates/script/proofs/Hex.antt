@@ -8,9 +8,9 @@ use mathlib.Core.Bool.{Bool, true, false, cond, false≢true}
 use mathlib.Core.List.{[], _∷_, _++_}
 use lib.ListN.{length, getD, take, drop, length-drop}
 use lib.Seq.{take-suc}
-use Rattle.lists.specs.Bytes.{Bytes}
+use Rattle.lists.specs.Bytes.{Bytes, hexDigit}
 use Rattle.script.specs.Numbers.{isDigit}
-use Rattle.script.specs.Strings.{isSmall, isLarge, hexValue, isQuoted, fromHex, bytesOf, hexDigit, toHex, isAllGraphic, nameText}
+use Rattle.script.specs.Strings.{isSmall, isLarge, hexValue, isQuoted, fromHex, bytesOf, toHex, isAllGraphic, nameText}
 
 -- the cases of a hex digit
 module _ (b : ℕ) where

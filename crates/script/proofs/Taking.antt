@@ -8,13 +8,13 @@ use lib.Dec.{eqb}
 use native.Mathlib.Omega.{arith}
 use mathlib.Core.List.{[], _++_, append-nil}
 use lib.Seq.{take-append-seam}
-use Rattle.lists.specs.Bytes.{Bytes, same, zeros, laidOver}
+use Rattle.lists.specs.Bytes.{Bytes, same, zeros, laidOver, isEmpty}
 use Rattle.lists.proofs.Tests.{and-right, eqb-true}
 use Rattle.script.specs.Text.{text}
 use Rattle.script.specs.Words.{firstWord, afterWord}
 use Rattle.script.specs.Numbers.{numberOf}
 use Rattle.script.specs.Strings.{isByteString, bytesOf}
-use Rattle.script.specs.Commands.{bad, withFirst, withSecond, setSecond, withLen, withDescriptor, withNonce, isBytes, isEmpty, noArgs, taken, takenText, Reading, reading, next, nextTwo, readWords}
+use Rattle.script.specs.Commands.{bad, withFirst, withSecond, setSecond, withLen, withDescriptor, withNonce, isBytes, noArgs, taken, takenText, Reading, reading, next, nextTwo, readWords}
 use Rattle.script.proofs.Hex.{bytesOf-length}
 use Rattle.script.proofs.Lines.{firstWord-length, afterWord-length}
 use Rattle.script.specs.declared.Number.{Number}

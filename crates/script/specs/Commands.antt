@@ -4,7 +4,7 @@ use mathlib.Core.Bool.{Bool, true, false, cond, _&&_}
 use mathlib.Core.List.{List, [], _∷_}
 use lib.ListN.{length}
 use lib.Dec.{eqb}
-use Rattle.lists.specs.Bytes.{Bytes, same, zeros}
+use Rattle.lists.specs.Bytes.{Bytes, same, zeros, isEmpty}
 use Rattle.script.specs.Text.{text}
 use Rattle.script.specs.Words.{firstWord, afterWord}
 use Rattle.script.specs.Numbers.{numberOf}
@@ -98,9 +98,6 @@ withNonce a x = record { good = a .good; first = a .first; second = a .second; d
 -- a byte string of exactly so many bytes
 abbrev pub isBytes : ℕ → Bytes → Bool
 isBytes n w = isByteString w && eqb (length (bytesOf w)) n
-
-abbrev pub isEmpty : Bytes → Bool
-isEmpty w = eqb (length w) 0
 
 -- one word more: what it should be, and what it is ("SIZE is the size of the name buffer lent, 255 if left out")
 unfoldable pub taken : Args → Sort → Bytes → Args

@@ -4,7 +4,7 @@ use mathlib.Core.Bool.{Bool, cond, not, _&&_, _||_}
 use mathlib.Core.List.{List, [], _∷_}
 use lib.ListN.{length, getD, drop}
 use lib.Dec.{eqb, leb, ltb}
-use Rattle.lists.specs.Bytes.{Bytes, same, firstAt}
+use Rattle.lists.specs.Bytes.{Bytes, same, firstAt, hexDigit}
 use Rattle.script.specs.Text.{text, isWithin}
 use Rattle.script.specs.Numbers.{isDigit}
 
@@ -42,10 +42,6 @@ fromHex (a ∷ b ∷ s) = (hexValue a * 16 + hexValue b) ∷ fromHex s
 -- the bytes that a byte string stands for; `-` has no two digits
 unfoldable pub bytesOf : Bytes → Bytes
 bytesOf s = cond (isQuoted s) (drop 1 s) (fromHex s)
-
--- a lower case hex digit
-unfoldable pub hexDigit : ℕ → ℕ
-hexDigit n = cond (ltb n 10) (48 + n) (87 + n)
 
 -- bytes in hex, in lower case
 unfoldable pub toHex : Bytes → Bytes

@@ -5,8 +5,9 @@ ghost use mathlib.Core.List.{[], _∷_};
 ghost use Prim.Native.Nat.{_+_, _*_, _/_, _%_, _≤_, _<_};
 ghost use lib.ListN.{length};
 ghost use lib.Seq.{sets};
+ghost use Rattle.lists.specs.Bytes.{hexDigit};
 ghost use Rattle.script.specs.Numbers.{lastDigits, decimal};
-ghost use Rattle.script.specs.Strings.{hexDigit, toHex, isGraphic, isAllGraphic, nameText};
+ghost use Rattle.script.specs.Strings.{toHex, isGraphic, isAllGraphic, nameText};
 
 // A text as it is.
 pub fn put(out: &mut [u8], at: usize, s: &[u8]) -> usize
@@ -52,26 +53,16 @@ pub fn put_decimal(out: &mut [u8], at: usize, n: u64) -> usize
     put_digits(out, at, n, 20)
 }
 
-fn hex_digit(n: u8) -> u8
-    requires { ⌜ n ≤ 15 ⌝ }
-    ensures { λ r. ⌜ r ≡ hexDigit n ⌝ }
-{
-    if n < 10 {
-        return 48 + n;
-    }
-    87 + n
-}
-
 fn high_digit(b: u8) -> u8
     ensures { λ r. ⌜ r ≡ hexDigit (b / 16) ⌝ }
 {
-    hex_digit(b / 16)
+    lists::hex_digit(b / 16)
 }
 
 fn low_digit(b: u8) -> u8
     ensures { λ r. ⌜ r ≡ hexDigit (b % 16) ⌝ }
 {
-    hex_digit(b % 16)
+    lists::hex_digit(b % 16)
 }
 
 // Bytes in hex.

@@ -4,11 +4,11 @@ use Prim.Native.Nat.{ℕ, zero, suc, _+_, _-_}
 use mathlib.Core.Path.{_≡_, refl}
 use mathlib.Core.List.{List, [], _∷_, _++_, map}
 use lib.ListN.{drop}
-use Rattle.lists.specs.Bytes.{Bytes, zeros, firstAt, same}
+use Rattle.lists.specs.Bytes.{Bytes, zeros, firstAt, same, hexDigit}
 use Rattle.errno.specs.Refusals.{_⇒_, _>>_}
 use Rattle.policy.specs.Policies.{isPair, isValid, samePolicy, isMasterKeySize, nameKeySize, policyBytes, policyAt, policyCheck, readPolicy}
 use Rattle.fscrypt.specs.Names.{isDotName, isBadName, nameCheck, rounded, paddedLength, padded, encrypted, beforeNul, isAllNul, paddingCheck, readPadded}
-use Rattle.fscrypt.specs.Encoded.{letter, letters, hexDigit, encoded}
+use Rattle.fscrypt.specs.Encoded.{letter, letters, encoded}
 use Rattle.volume.specs.Volume.{inodeSlots, entrySlots, fresh}
 use Rattle.volume.specs.Request.{Request, addKey, removeKey, setPolicy, getPolicy, create, link, rename, exchange, remove, find, show, seal, unseal, Answer, refused, done, created, at, policyIs, shown}
 use Rattle.volume.specs.Lookup.{keySlotOf, freeKeySlot, keyOf, keyPresent, keyNeeded, freeInode, bearsNonce, nonceHolder, freeEntry, entryNamed, firstChild, firstLink, parentOf, climbFrom, isUnderItself}

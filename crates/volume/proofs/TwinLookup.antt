@@ -9,13 +9,13 @@ use mathlib.Core.List.{List, [], _∷_, _++_, map}
 use lib.ListN.{length, getD, take, drop, List·getD-map}
 use lib.Seq.{take-at}
 use lib.Dec.{eqb}
-use Rattle.lists.specs.Bytes.{Bytes, ByteList, same, firstAt}
+use Rattle.lists.specs.Bytes.{Bytes, ByteList, same, firstAt, isEmpty}
 use Rattle.lists.proofs.Tests.{not-false, and-left, and-right, and-cong, and-known, if-true, if-false, eqb-true, eqb-other, same-eq, same-inj}
 use Rattle.lists.proofs.Tables.{firstAt-map, firstAt-ends}
 use Rattle.errno.specs.declared.Checked.the-variants.{Fine}
 use Rattle.errno.proofs.Chains.{skip}
 use Rattle.policy.specs.Policies.{isMasterKeySize, nameKeySize}
-use Rattle.fscrypt.specs.Names.{isEmpty, nameCheck, padded, encrypted}
+use Rattle.fscrypt.specs.Names.{nameCheck, padded, encrypted}
 use Rattle.fscrypt.proofs.Padding.{pad-fits, length-padded, padded-bytes, name-fits, plain-name}
 use Rattle.volume.specs.Volume.{inodeSlots, noKey, noInode, noEntry, nameOf}
 use Rattle.volume.specs.Lookup.{isFreeKey, onKeyring, keySlotOf, freeKeySlot, keyOf, masterKey, descriptorOf, keyPresent, keyNeeded, inodeAt, isDirectory, entryAt, isVacant, freeEntry, isIn, isNamed, entryNamed, firstChild, isLink, firstLink, parentOf, climbFrom, isMoved, isUnderItself}

@@ -1,8 +1,9 @@
 -- `put_hex`: the digits of the first `i` bytes are stored. Assumes nothing.
+use Rattle.lists.specs.Bytes.{hexDigit}
 use Prim.Native.Nat.{_<_, _/_, _%_, ℕ, _+_, _*_, _≤_, _-_}
 use mathlib.Core.List.{_++_, List, _∷_, []}
 use lib.ListN.{getD, length-set, length-take, set, length, take}
-use Rattle.script.specs.Strings.{hexDigit, toHex}
+use Rattle.script.specs.Strings.{toHex}
 use Rattle.script.proofs.Stores.{sets-two}
 use denote.Ref.{now}
 use Rattle.script.proofs.Hex.{toHex-next, toHex-length}

@@ -1,9 +1,9 @@
--- `encode::hex_digit` meets its contract: the law of the range that its number is in. Assumes nothing.
+-- `hex_digit` meets its contract: the law of the range that its number is in. Assumes nothing.
 use native.Mathlib.Omega.{arith}
-use Rattle.fscrypt.proofs.Lettering.{hex-low, hex-high}
+use Rattle.lists.proofs.Digits.{hex-low, hex-high}
 use borrow.Author.Needs.{needs}
-use Rattle.fscrypt.proofs.encode.hex_digit.Statement.{statement}
-use Rattle.fscrypt.proofs.encode.hex_digit.Tie as tie
+use Rattle.lists.proofs.hex_digit.Statement.{statement}
+use Rattle.lists.proofs.hex_digit.Tie as tie
 
 add-result : tie.Need-add-result
 add-result c = search needs
