@@ -28,18 +28,18 @@ use Rattle.volume.specs.declared.Form.the-variants.{Plain, Decrypted, En
 
 -- ---- checks that requests share
 
--- "parent exists; parent is a folder"
+-- the parent exists and is a directory (document 01: "parent exists; parent is a folder")
 unfoldable pub directoryCheck : Volume → InodeNumber → Checked
 directoryCheck v p = do
   isFree (inodeAt v p) ⇒ ENOENT
   not (isDirectory (inodeAt v p)) ⇒ ENOTDIR
   Fine
 
--- the policy refusal: "an encrypted folder would gain a regular file, folder or symlink that lacks that folder's policy"
+-- the policy refusal, document 00: "an encrypted folder would gain a regular file, folder or symlink that lacks that folder's policy"
 unfoldable pub isPolicyRefused : Inode → Inode → Bool
 isPolicyRefused dir node = dir .encrypted && (leb (node .kind) 3 && not (node .encrypted && samePolicy (node .context .policy) (dir .context .policy)))
 
--- "Kinds: 1 folder, 2 regular file, 3 symlink, 4 special"
+-- document 01: "Kinds: 1 folder, 2 regular file, 3 symlink, 4 special"
 unfoldable pub isBadKind : ℕ → Bool
 isBadKind kind = eqb kind 0 || ltb 4 kind
 
@@ -62,7 +62,7 @@ module _ (C : Cipher) where
   unfoldable pub nameKey : Volume → Inode → Bytes
   nameKey v dir = take (nameKeySize (dir .context .policy)) (derivedKey v dir)
 
-  -- a plain name as this directory stores it: "The key is the parent folder's."
+  -- a plain name as this directory stores it (document 01: "The key is the parent folder's.")
   unfoldable pub stored : Volume → Inode → Bytes → Bytes
   stored v dir n = cond (dir .encrypted) (encrypted C (nameKey v dir) (dir .context .policy .flags) n) n
 
@@ -98,7 +98,7 @@ removeKeyCheck v d = do
   leb keySlots (keySlotOf v d) ⇒ ENOKEY
   Fine
 
--- "Set policy: thing, policy bytes, then if encrypted: equal is a success that changes nothing, else EEXIST; then root, non-folder, nonempty, nonce."
+-- document 01: "Set policy: thing, policy bytes, then if encrypted: equal is a success that changes nothing, else EEXIST; then root, non-folder, nonempty, nonce."
 unfoldable pub setPolicyCheck : Volume → InodeNumber → Bytes → Bytes → Checked
 setPolicyCheck v i p x =
     let node = inodeAt v i in do
