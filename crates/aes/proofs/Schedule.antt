@@ -11,7 +11,7 @@ use lib.ListN.{length, drop, getD, length-append, List·getD-append}
 use Rattle.field.specs.Field.{xTimes}
 use Rattle.aes.specs.Words.{wordAt, addWord, subWord, rotWord}
 use Rattle.aes.specs.Bytes.{wordBytes, putAt}
-use Rattle.aes.specs.KeyExpansion.{pick, xPower, rcon, temp, nextWord, expanded, keyExpansion}
+use Rattle.aes.specs.KeyExpansion.{xPower, rcon, temp, nextWord, expanded, keyExpansion}
 use Rattle.aes.specs.declared.Word.{Word}
 use Rattle.aes.proofs.Seams.{put-seam, front}
 

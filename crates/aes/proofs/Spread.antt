@@ -1,6 +1,6 @@
 -- Lists of bytes: what is made of bytes is bytes, and so is an expanded key. Assumes nothing.
 use mathlib.Core.Path.{_≡_, refl, sym, ap, subst}
-use mathlib.Core.Bool.{Bool, true, false}
+use mathlib.Core.Bool.{Bool, true, false, cond}
 use mathlib.Core.List.{List, [], _∷_, _++_}
 use Prim.Native.Nat.{ℕ, zero, suc, _+_, _-_, _*_, _/_, _%_, _<_}
 use native.Mathlib.Omega.{arith}
@@ -12,7 +12,7 @@ use Rattle.aes.specs.Words.{wordAt, addWord, subWord, rotWord}
 use Rattle.aes.specs.States.{stateAt}
 use Rattle.aes.specs.Bytes.{wordBytes, stateBytes}
 use Rattle.lists.specs.Bytes.{ByteList}
-use Rattle.aes.specs.KeyExpansion.{pick, xPower, rcon, temp, nextWord, expanded, keyExpansion}
+use Rattle.aes.specs.KeyExpansion.{xPower, rcon, temp, nextWord, expanded, keyExpansion}
 use Rattle.aes.specs.declared.Word.{Word}
 use Rattle.aes.specs.declared.State.{State}
 use Rattle.field.proofs.Xor.{xTimes-lt}
@@ -81,21 +81,21 @@ rotWord-bytes : (w : Word) → ByteWord w → ByteWord (rotWord w)
 unfolding rotWord
 rotWord-bytes w h = record { r0 = h .r1; r1 = h .r2; r2 = h .r3; r3 = h .r0 }
 
-pick-bytes : (t : Bool) (v w : Word) → ByteWord v → ByteWord w → ByteWord (pick t v w)
-pick-bytes true v w h g = h
-pick-bytes false v w h g = g
+cond-bytes : (t : Bool) (v w : Word) → ByteWord v → ByteWord w → ByteWord (cond t v w)
+cond-bytes true v w h g = h
+cond-bytes false v w h g = g
 
 temp-bytes : (nk i : ℕ) (t : Word) → ByteWord t → ByteWord (temp nk i t)
 unfolding temp
 temp-bytes nk i t h =
-    pick-bytes (eqb (i % nk) 0) (addWord (subWord (rotWord t)) (rcon (i / nk))) (pick (ltb 6 nk) (pick (eqb (i % nk) 4) (subWord t) t) t)
+    cond-bytes (eqb (i % nk) 0) (addWord (subWord (rotWord t)) (rcon (i / nk))) (cond (ltb 6 nk) (cond (eqb (i % nk) 4) (subWord t) t) t)
     (addWord-bytes _ _ (subWord-bytes _ (rotWord-bytes t h)) (rcon-bytes (i / nk)))
-    (pick-bytes (ltb 6 nk) (pick (eqb (i % nk) 4) (subWord t) t) t (pick-bytes (eqb (i % nk) 4) (subWord t) t (subWord-bytes t h) h) h)
+    (cond-bytes (ltb 6 nk) (cond (eqb (i % nk) 4) (subWord t) t) t (cond-bytes (eqb (i % nk) 4) (subWord t) t (subWord-bytes t h) h) h)
 
 nextWord-bytes : (nk : ℕ) (key w : List ℕ) (i : ℕ) → ByteList key → ByteList w → ByteWord (nextWord nk key w i)
 unfolding nextWord
 nextWord-bytes nk key w i h g =
-    pick-bytes (ltb i nk) (wordAt key (4 * i)) (addWord (wordAt w (4 * (i - nk))) (temp nk i (wordAt w (4 * i - 4)))) (wordAt-bytes key h _)
+    cond-bytes (ltb i nk) (wordAt key (4 * i)) (addWord (wordAt w (4 * (i - nk))) (temp nk i (wordAt w (4 * i - 4)))) (wordAt-bytes key h _)
     (addWord-bytes _ _ (wordAt-bytes w g _) (temp-bytes nk i _ (wordAt-bytes w g _)))
 
 expanded-bytes : (nk : ℕ) (key : List ℕ) → ByteList key → (i : ℕ) → ByteList (expanded nk key i)

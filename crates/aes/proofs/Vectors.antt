@@ -8,7 +8,7 @@ use Rattle.aes.specs.Words.{mixColumn, subWord, addWord, rotWord, wordAt
 use Rattle.aes.specs.States.{subBytes, shiftRows, mixColumns, addRoundKey, stateAt}
 use Rattle.aes.specs.Bytes.{stateBytes}
 use Rattle.aes.specs.Cipher.{roundKey, round, rounds, lastRound, cipher}
-use Rattle.aes.specs.KeyExpansion.{pick, xPower, rcon, temp, nextWord, expanded, keyExpansion}
+use Rattle.aes.specs.KeyExpansion.{xPower, rcon, temp, nextWord, expanded, keyExpansion}
 
 key128 : List ℕ
 key128 = 0x00 ∷ 0x01 ∷ 0x02 ∷ 0x03 ∷ 0x04 ∷ 0x05 ∷ 0x06 ∷ 0x07 ∷ 0x08 ∷ 0x09 ∷ 0x0a ∷ 0x0b ∷ 0x0c ∷ 0x0d ∷ 0x0e ∷ 0x0f ∷ []

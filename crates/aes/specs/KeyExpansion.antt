@@ -1,7 +1,7 @@
 -- KeyExpansion, FIPS 197 section 5.2, algorithm 2, for a key of nk words. The schedule is kept as bytes: word i is bytes 4 i to 4 i + 3.
 -- Assumes nothing.
 use mathlib.Core.Path.{_≡_}
-use mathlib.Core.Bool.{Bool, true, false}
+use mathlib.Core.Bool.{cond}
 use mathlib.Core.List.{List, [], _∷_, _++_}
 use Prim.Native.Nat.{ℕ, zero, suc, _+_, _-_, _*_, _/_, _%_, _≤_}
 use lib.Dec.{eqb, ltb}
@@ -17,11 +17,6 @@ pub record KeySize (bytes : ℕ) : Type 0 where
   pub least : 16 ≤ bytes
   pub most : bytes ≤ 32
 
--- if .. then .. else
-abbrev pub pick : Bool → Word → Word → Word
-pick true v w = v
-pick false v w = w
-
 -- x^n, x being {02}
 unfoldable pub xPower : ℕ → ℕ
 xPower zero = 1
@@ -34,11 +29,11 @@ rcon j = record { r0 = xPower (j - 1); r1 = 0; r2 = 0; r3 = 0 }
 -- lines 9 to 13: temp, made of w[i - 1]
 unfoldable pub temp : ℕ → ℕ → Word → Word
 temp nk i t =
-    pick (eqb (i % nk) 0) (addWord (subWord (rotWord t)) (rcon (i / nk))) (pick (ltb 6 nk) (pick (eqb (i % nk) 4) (subWord t) t) t)
+    cond (eqb (i % nk) 0) (addWord (subWord (rotWord t)) (rcon (i / nk))) (cond (ltb 6 nk) (cond (eqb (i % nk) 4) (subWord t) t) t)
 
 -- w[i], after the words w: a word of the key (lines 3 to 4), or w[i - nk] with temp added (lines 8 to 14)
 unfoldable pub nextWord : ℕ → List ℕ → List ℕ → ℕ → Word
-nextWord nk key w i = pick (ltb i nk) (wordAt key (4 * i)) (addWord (wordAt w (4 * (i - nk))) (temp nk i (wordAt w (4 * i - 4))))
+nextWord nk key w i = cond (ltb i nk) (wordAt key (4 * i)) (addWord (wordAt w (4 * (i - nk))) (temp nk i (wordAt w (4 * i - 4))))
 
 -- the first i words
 unfoldable pub expanded : ℕ → List ℕ → ℕ → List ℕ

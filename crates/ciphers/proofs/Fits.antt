@@ -1,40 +1,33 @@
 -- What the entries test, and what they answer then: which lengths are taken, and that the answer and the buffer are those of the definition.
 -- Assumes nothing.
 use mathlib.Core.Path.{_≡_, refl, sym, ap, _∙_, subst}
-use mathlib.Core.Bool.{Bool, true, false}
+use mathlib.Core.Bool.{Bool, true, false, _&&_, _||_}
 use mathlib.Core.List.{List}
 use mathlib.Core.Logic.{_⊎_, inl, inr, ⊎-elim}
 use Prim.Native.Nat.{ℕ, _+_, _*_, _/_, _%_, _≤_, _<_}
 use native.Mathlib.Omega.{arith}
 use borrow.Author.Tests.{eqb-true, leb-true}
 use lib.Dec.{eqb, leb}
+use Rattle.lists.proofs.Tests.{and-left, and-right}
 use Rattle.aes.specs.KeyExpansion.{KeySize}
-use Rattle.ciphers.specs.Entries.{Answer, answer, and, or, ctsFits, xtsFits, ecbFits}
+use Rattle.ciphers.specs.Entries.{Answer, answer, ctsFits, xtsFits, ecbFits}
 use Rattle.ciphers.specs.declared.Status.{Status}
 
 -- ---- tests
 
-and-left : (a b : Bool) → and a b ≡ true → a ≡ true
-and-left true b h = refl
-and-left false b h = h
-
-and-right : (a b : Bool) → and a b ≡ true → b ≡ true
-and-right true b h = h
-and-right false b h = let z : _≡_ {A = ℕ} 0 1 = cc in absurd (omega arith)
-
-or-cases : (a b : Bool) → or a b ≡ true → (a ≡ true) ⊎ (b ≡ true)
+or-cases : (a b : Bool) → (a || b) ≡ true → (a ≡ true) ⊎ (b ≡ true)
 or-cases true b h = inl h
 or-cases false b h = inr h
 
 pub cts-sizes : (k t : ℕ) → ctsFits k t ≡ true → KeySize k × (16 ≤ t) × (t ≤ 4096)
 unfolding ctsFits
 cts-sizes k t h =
-    let texts : and (leb 16 t) (leb t 4096) ≡ true = and-left (and (leb 16 t) (leb t 4096)) (or (eqb k 16) (eqb k 32)) h in
+    let texts = and-left (leb 16 t && leb t 4096) (eqb k 16 || eqb k 32) h in
     let lo : 16 ≤ t = leb-true 16 t (and-left (leb 16 t) (leb t 4096) texts) in
     let hi : t ≤ 4096 = leb-true t 4096 (and-right (leb 16 t) (leb t 4096) texts) in
     ⊎-elim (λ e. let q : k ≡ 16 = eqb-true k 16 e in (record { words = omega arith; least = omega arith; most = omega arith }, lo, hi))
     (λ e. let q : k ≡ 32 = eqb-true k 32 e in (record { words = omega arith; least = omega arith; most = omega arith }, lo, hi))
-    (or-cases (eqb k 16) (eqb k 32) (and-right (and (leb 16 t) (leb t 4096)) (or (eqb k 16) (eqb k 32)) h))
+    (or-cases (eqb k 16) (eqb k 32) (and-right (leb 16 t && leb t 4096) (eqb k 16 || eqb k 32) h))
 
 pub xts-sizes : (k t : ℕ) → xtsFits k t ≡ true → (k ≡ 64) × (t ≡ 4096)
 unfolding xtsFits
@@ -43,10 +36,11 @@ xts-sizes k t h = (eqb-true k 64 (and-left (eqb k 64) (eqb t 4096) h), eqb-true 
 pub ecb-sizes : (k t : ℕ) → ecbFits k t ≡ true → (k ≡ 16) × (t ≡ 16 * (t / 16)) × (t ≤ 64)
 unfolding ecbFits
 ecb-sizes k t h =
-    let g : and (eqb (t % 16) 0) (and (leb 16 t) (leb t 64)) ≡ true = and-right (eqb k 16) (and (eqb (t % 16) 0) (and (leb 16 t) (leb t 64))) h in
-    let m : t % 16 ≡ 0 = eqb-true (t % 16) 0 (and-left (eqb (t % 16) 0) (and (leb 16 t) (leb t 64)) g) in
-    let f : and (leb 16 t) (leb t 64) ≡ true = and-right (eqb (t % 16) 0) (and (leb 16 t) (leb t 64)) g in
-    (eqb-true k 16 (and-left (eqb k 16) (and (eqb (t % 16) 0) (and (leb 16 t) (leb t 64))) h), omega arith, leb-true t 64 (and-right (leb 16 t) (leb t 64) f))
+    let range = leb 16 t && leb t 64 in
+    let g = and-right (eqb k 16) (eqb (t % 16) 0 && range) h in
+    let m : t % 16 ≡ 0 = eqb-true (t % 16) 0 (and-left (eqb (t % 16) 0) range g) in
+    let f = and-right (eqb (t % 16) 0) range g in
+    (eqb-true k 16 (and-left (eqb k 16) (eqb (t % 16) 0 && range) h), omega arith, leb-true t 64 (and-right (leb 16 t) (leb t 64) f))
 
 -- ---- answers
 

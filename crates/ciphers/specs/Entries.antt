@@ -1,6 +1,6 @@
 -- The public entries of ciphers: the answer and what the lent buffer holds then, for every key and every buffer. Document 01: "a key other than
 -- 16 or 32 bytes (XTS: 64), a CTS text outside 16 to 4,096 bytes or an XTS block other than 4,096 is EINVAL, and the buffer stays". Assumes nothing.
-use mathlib.Core.Bool.{Bool, true, false}
+use mathlib.Core.Bool.{Bool, true, false, _&&_, _||_}
 use mathlib.Core.List.{List}
 use Prim.Native.Nat.{ℕ, _+_, _*_, _/_, _%_}
 use lib.Dec.{eqb, leb}
@@ -23,19 +23,11 @@ abbrev pub answer : Bool → List ℕ → List ℕ → Answer
 answer true new old = record { status = record { errno = 0 }; buffer = new }
 answer false new old = record { status = record { errno = 22 }; buffer = old }
 
-abbrev pub and : Bool → Bool → Bool
-and true b = b
-and false b = false
-
-abbrev pub or : Bool → Bool → Bool
-or true b = true
-or false b = b
-
 -- ---- CBC-CS3 under a key of 16 or 32 bytes, from an initialization vector of zeros
 
 -- a text of 16 to 4,096 bytes, and a key of 16 or 32
 unfoldable pub ctsFits : ℕ → ℕ → Bool
-ctsFits key text = and (and (leb 16 text) (leb text 4096)) (or (eqb key 16) (eqb key 32))
+ctsFits key text = (leb 16 text && leb text 4096) && (eqb key 16 || eqb key 32)
 
 abbrev pub zeroBlock : State
 zeroBlock = numberBlock 0
@@ -52,7 +44,7 @@ ctsDecrypt key text =
 
 -- a key of 64 bytes, and a block of 4,096
 unfoldable pub xtsFits : ℕ → ℕ → Bool
-xtsFits key block = and (eqb key 64) (eqb block 4096)
+xtsFits key block = eqb key 64 && eqb block 4096
 
 -- the tweak of a block's first 16 bytes: the block's number, the lowest byte first, enciphered under the second half
 unfoldable pub tweakOf : List ℕ → ℕ → State
@@ -70,7 +62,7 @@ xtsDecrypt key number block =
 
 -- a key of 16 bytes, and 1 to 4 whole blocks
 unfoldable pub ecbFits : ℕ → ℕ → Bool
-ecbFits key text = and (eqb key 16) (and (eqb (text % 16) 0) (and (leb 16 text) (leb text 64)))
+ecbFits key text = eqb key 16 && (eqb (text % 16) 0 && (leb 16 text && leb text 64))
 
 unfoldable pub ecbEncrypt : List ℕ → List ℕ → Answer
 ecbEncrypt key text = answer (ecbFits (length key) (length text)) (ecbBlocks (keyExpansion key) 10 text (length text / 16)) text

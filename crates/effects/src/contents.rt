@@ -43,11 +43,8 @@ fn copy_name(buf: &mut [u8], n: Name)
     ensures { λ _. ⌜ now (buf .exit) ≡ laidOver (now (buf .entry)) (nameBytes n) ⌝ }
 {
     let len = n.len as usize;
-    let mut i: usize = 0;
-    while i < len {
-        buf[i] = n.bytes[i];
-        i += 1;
-    }
+    let bytes = n.bytes;
+    lists::copy_to(buf, 0, &bytes[..len]);
 }
 
 // The answer, and the name at the buffer's start.

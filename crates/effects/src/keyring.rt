@@ -28,11 +28,7 @@ fn new_key(d: [u8; 8], key: &[u8]) -> Key
 {
     let none = keyring::blank_key();
     let mut bytes = none.bytes;
-    let mut i: usize = 0;
-    while i < key.len() {
-        bytes[i] = key[i];
-        i += 1;
-    }
+    lists::copy_to(&mut bytes, 0, key);
     Key {
         len: key.len() as u8,
         descriptor: d,

@@ -152,11 +152,7 @@ fn put_name(into: [u8; 255], name: &[u8]) -> [u8; 255]
     ensures { λ r. ⌜ r ≡ laidOver into (now (name .entry)) ⌝ }
 {
     let mut bytes = into;
-    let mut i: usize = 0;
-    while i < name.len() {
-        bytes[i] = name[i];
-        i += 1;
-    }
+    lists::copy_to(&mut bytes, 0, name);
     bytes
 }
 

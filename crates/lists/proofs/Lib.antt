@@ -5,3 +5,4 @@ pub mod Loops
 pub mod Predicates
 pub mod Slots
 pub mod Digits
+pub mod Copies

@@ -1,6 +1,8 @@
-// Byte strings and tables: definitions, laws, and the one comparison; a hex digit.
+// Byte strings and tables: definitions, laws, the one comparison and the one copy; a hex digit.
 ghost use mathlib.Core.Path.{_≡_};
-ghost use Prim.Native.Nat.{_≤_};
+ghost use Prim.Native.Nat.{_+_, _≤_};
+ghost use lib.ListN.{length};
+ghost use lib.Seq.{sets};
 ghost use Rattle.lists.specs.Bytes.{same, hexDigit};
 
 // Whether two byte strings are equal.
@@ -18,6 +20,18 @@ pub fn same_bytes(a: &[u8], b: &[u8]) -> bool
         i += 1;
     }
     true
+}
+
+// Copies bytes into a buffer, from a position on.
+pub fn copy_to(out: &mut [u8], at: usize, s: &[u8])
+    requires { ⌜ at + length (now s) ≤ length (now out) ⌝ }
+    ensures { λ _. ⌜ now (out .exit) ≡ sets (now (out .entry)) at (now (s .entry)) ⌝ }
+{
+    let mut i: usize = 0;
+    while i < s.len() {
+        out[at + i] = s[i];
+        i += 1;
+    }
 }
 
 // A lower case hex digit.

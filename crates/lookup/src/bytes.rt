@@ -9,13 +9,6 @@ pub fn zeros8() -> [u8; 8]
     [0u8; 8]
 }
 
-// A nonce.
-pub fn zeros16() -> [u8; 16]
-    ensures { λ r. ⌜ r ≡ zeros 16 ⌝ }
-{
-    [0u8; 16]
-}
-
 // The bytes of a key.
 pub fn zeros64() -> [u8; 64]
     ensures { λ r. ⌜ r ≡ zeros 64 ⌝ }

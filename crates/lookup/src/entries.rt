@@ -10,7 +10,7 @@ ghost use mathlib.Core.Path.{_≡_};
 ghost use Rattle.lists.specs.Bytes.{same};
 ghost use Rattle.fscrypt.specs.Names.{nameBytes};
 ghost use Rattle.volume.specs.Volume.{noEntry, nameOf};
-ghost use Rattle.volume.specs.Lookup.{entryAt, isVacant, freeEntry, isIn, isNamed, entryNamed, isTaken, firstChild, hasEntries, isLink, firstLink, isHeld};
+ghost use Rattle.volume.specs.Lookup.{entryAt, isVacant, freeEntry, isIn, isNamed, entryNamed, firstChild, hasEntries, isLink, firstLink, isHeld};
 
 // A free record: all zeros.
 pub fn blank_entry() -> Entry
@@ -124,13 +124,6 @@ pub fn entry_named(v: Volume, p: InodeNumber, s: Name) -> usize
         i += 1;
     }
     i
-}
-
-// Whether this directory has an entry with this stored name.
-pub fn is_taken(v: Volume, p: InodeNumber, s: Name) -> bool
-    ensures { λ r. ⌜ r ≡ isTaken v p (nameBytes s) ⌝ }
-{
-    entry_named(v, p, s) < ENTRY_SLOTS
 }
 
 // Whether the entry is in use and holds this inode.

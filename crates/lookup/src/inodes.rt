@@ -1,7 +1,4 @@
 // Inodes: which has a number, where there is room, and which bears a nonce.
-use crate::bytes;
-use policy::Context;
-use policy::Policy;
 use volume::INODE_SLOTS;
 use volume::Inode;
 use volume::InodeNumber;
@@ -15,19 +12,7 @@ ghost use Rattle.volume.specs.Lookup.{inodeAt, isFree, freeInode, bearsNonce, n
 pub fn blank_inode() -> Inode
     ensures { λ r. ⌜ r ≡ noInode ⌝ }
 {
-    let d = bytes::zeros8();
-    let x = bytes::zeros16();
-    let p = Policy {
-        version: 0,
-        contents: 0,
-        names: 0,
-        flags: 0,
-        descriptor: d,
-    };
-    let c = Context {
-        policy: p,
-        nonce: x,
-    };
+    let c = policy::no_context();
     Inode {
         kind: 0,
         encrypted: false,

@@ -1,12 +1,10 @@
 // The keyring: which key has a descriptor, where there is room, and whether the key of an inode is present.
 use crate::bytes;
-use policy::Policy;
 use volume::Inode;
 use volume::KEY_SLOTS;
 use volume::Key;
 use volume::Volume;
 ghost use mathlib.Core.Path.{_≡_};
-ghost use Rattle.policy.specs.Policies.{isMasterKeySize};
 ghost use Rattle.volume.specs.Volume.{noKey};
 ghost use Rattle.volume.specs.Lookup.{isFreeKey, onKeyring, keySlotOf, freeKeySlot, keyOf, keyPresent, keyNeeded};
 
@@ -82,13 +80,6 @@ pub fn key_of(v: Volume, d: [u8; 8]) -> Key
     blank_key()
 }
 
-// The size that a policy asks of its master key. A further pair of modes would differ here.
-fn is_master_key_size(p: Policy, n: u8) -> bool
-    ensures { λ r. ⌜ r ≡ isMasterKeySize p n ⌝ }
-{
-    n == 64
-}
-
 // Whether the key of this inode's policy is on the keyring and of the right size.
 pub fn key_present(v: Volume, i: Inode) -> bool
     ensures { λ r. ⌜ r ≡ keyPresent v i ⌝ }
@@ -97,7 +88,7 @@ pub fn key_present(v: Volume, i: Inode) -> bool
     let p = c.policy;
     let d = p.descriptor;
     let k = key_of(v, d);
-    is_master_key_size(p, k.len)
+    policy::is_master_key_size(p, k.len)
 }
 
 // Whether the inode is encrypted and its key absent.

@@ -17,7 +17,7 @@ use Rattle.aes.proofs.Put.{length-putAt, take-putAt}
 use Rattle.aes.proofs.Seams.{length-state, seam-at}
 use Rattle.modes.specs.Walk.{carried, walked}
 use Rattle.modes.specs.Xts.{lowWord, numberBlock}
-use Rattle.modes.specs.Cts.{cbcStep, cbcNext, cbcInvStep, cbcInvNext, lastTwo, invLastTwo, filledWord, filled, cs3Encrypt, cs3Decrypt, pickList, cbcCs3Encrypt, cbcCs3Decrypt}
+use Rattle.modes.specs.Cts.{cbcStep, cbcNext, cbcInvStep, cbcInvNext, lastTwo, invLastTwo, filledWord, filled, cs3Encrypt, cs3Decrypt, cbcCs3Encrypt, cbcCs3Decrypt}
 use Rattle.modes.proofs.Walks.{Going, going-start, going-turn, going-end, length-walked}
 
 -- zeros are what a block is filled with

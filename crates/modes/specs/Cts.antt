@@ -1,6 +1,6 @@
 -- CBC with ciphertext stealing, CBC-CS3: the addendum to NIST SP 800-38A, over a text of 16 bytes or more, which is P_1 .. P_n of 16 bytes each,
 -- but for the last, which may be shorter. CBC itself is SP 800-38A section 6.2. Assumes nothing.
-use mathlib.Core.Bool.{Bool, true, false}
+use mathlib.Core.Bool.{cond}
 use mathlib.Core.List.{List, _++_}
 use Prim.Native.Nat.{ℕ, _+_, _-_, _*_, _/_}
 use lib.Dec.{ltb}
@@ -58,15 +58,10 @@ cs3Encrypt w nr iv l m = walked (cbcStep w nr) cbcNext l iv m ++ lastTwo w nr (c
 unfoldable pub cs3Decrypt : List ℕ → ℕ → State → List ℕ → ℕ → List ℕ
 cs3Decrypt w nr iv l m = walked (cbcInvStep w nr) cbcInvNext l iv m ++ invLastTwo w nr (carried (cbcInvStep w nr) cbcInvNext l iv m) l (16 * m)
 
--- if .. then .. else
-abbrev pub pickList : Bool → List ℕ → List ℕ → List ℕ
-pickList true l m = l
-pickList false l m = m
-
 -- ---- CBC-CS3-Encrypt and CBC-CS3-Decrypt. Of l bytes, above 16, n is l / 16 rounded up, so m is (l - 17) / 16; a text of 16 bytes is one block of CBC
 
 unfoldable pub cbcCs3Encrypt : List ℕ → ℕ → State → List ℕ → List ℕ
-cbcCs3Encrypt w nr iv l = pickList (ltb 16 (length l)) (cs3Encrypt w nr iv l ((length l - 17) / 16)) (walked (cbcStep w nr) cbcNext l iv 1)
+cbcCs3Encrypt w nr iv l = cond (ltb 16 (length l)) (cs3Encrypt w nr iv l ((length l - 17) / 16)) (walked (cbcStep w nr) cbcNext l iv 1)
 
 unfoldable pub cbcCs3Decrypt : List ℕ → ℕ → State → List ℕ → List ℕ
-cbcCs3Decrypt w nr iv l = pickList (ltb 16 (length l)) (cs3Decrypt w nr iv l ((length l - 17) / 16)) (walked (cbcInvStep w nr) cbcInvNext l iv 1)
+cbcCs3Decrypt w nr iv l = cond (ltb 16 (length l)) (cs3Decrypt w nr iv l ((length l - 17) / 16)) (walked (cbcInvStep w nr) cbcInvNext l iv 1)

@@ -1,4 +1,4 @@
 -- The laws of policy.
 pub mod Codec
-mod Listing
+mod Writing
 mod Reading

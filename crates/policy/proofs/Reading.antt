@@ -2,18 +2,16 @@
 -- Assumes nothing.
 use mathlib.Core.Path.{_≡_, sym, ap, ap₂, _∙_}
 use mathlib.Core.Bool.{Bool, true, false, not}
-use mathlib.Core.List.{_∷_, _++_}
 use lib.ListN.{length, take, drop, getD}
 use borrow.Author.Tests.{eq-eqb, ne-eqb, not-true, not-false}
 use Rattle.lists.specs.Bytes.{Bytes}
 use Rattle.errno.specs.Refusals.{_⇒_, _>>_}
 use Rattle.errno.specs.declared.Checked.the-variants.{Fine}
-use Rattle.policy.specs.Policies.{isValid, policyBytes, contextBytes, policyAt, contextAt, policyCheck, contextCheck, readPolicy, readContext, refusedPolicy, refusedContext}
+use Rattle.policy.specs.Policies.{isValid, policyAt, contextAt, policyCheck, contextCheck, readPolicy, readContext, refusedPolicy, refusedContext}
 use Rattle.policy.specs.declared.Policy.{Policy}
 use Rattle.policy.specs.declared.Context.{Context}
 use Rattle.policy.specs.declared.PolicyRead.{PolicyRead}
 use Rattle.policy.specs.declared.ContextRead.{ContextRead}
-use Rattle.policy.proofs.Listing.{listing, listed-all}
 
 -- ---- what was read
 
@@ -71,15 +69,3 @@ module _ (b : Bytes) where
       unfolding contextAt
       context-taken x n h =
           ap₂ (λ (q : Policy) (y : Bytes). contextTaken (record { policy = q; nonce = y })) e n ∙ sym (context-fine l f (ap isValid (sym e) ∙ sym v ∙ not-false t h))
-
--- ---- their bytes, written one by one
-
-pub policy-listed : (p : Policy) → length (p .descriptor) ≡ 8 → p .version ∷ p .contents ∷ p .names ∷ p .flags ∷ listing (p .descriptor) 0 8 ≡ policyBytes p
-unfolding policyBytes
-policy-listed p l = ap (λ (d : Bytes). p .version ∷ p .contents ∷ p .names ∷ p .flags ∷ d) (listed-all 8 (p .descriptor) l)
-
-pub context-listed : (c : Context) → length (c .policy .descriptor) ≡ 8 → length (c .nonce) ≡ 16
-    → 1 ∷ c .policy .contents ∷ c .policy .names ∷ c .policy .flags ∷ (listing (c .policy .descriptor) 0 8 ++ listing (c .nonce) 0 16) ≡ contextBytes c
-unfolding contextBytes
-context-listed c l n =
-    ap₂ (λ (d x : Bytes). 1 ∷ c .policy .contents ∷ c .policy .names ∷ c .policy .flags ∷ (d ++ x)) (listed-all 8 (c .policy .descriptor) l) (listed-all 16 (c .nonce) n)

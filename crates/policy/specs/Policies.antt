@@ -42,15 +42,18 @@ nameKeySize p = 32
 
 -- ---- their bytes
 
+-- modes, flags and descriptor stand alike in the bytes of a policy and of a context, after a first byte
+abbrev pub fieldBytes : ℕ → Policy → Bytes
+fieldBytes first p = first ∷ p .contents ∷ p .names ∷ p .flags ∷ p .descriptor
+
 -- "A policy is 12 bytes: version, contents mode, names mode, flags, descriptor of 8"
 unfoldable pub policyBytes : Policy → Bytes
-policyBytes p = p .version ∷ p .contents ∷ p .names ∷ p .flags ∷ p .descriptor
+policyBytes p = fieldBytes (p .version) p
 
 -- "A context is 28 bytes: format 1, the two modes, flags, descriptor, nonce of 16"
 unfoldable pub contextBytes : Context → Bytes
-contextBytes c = 1 ∷ c .policy .contents ∷ c .policy .names ∷ c .policy .flags ∷ (c .policy .descriptor ++ c .nonce)
+contextBytes c = fieldBytes 1 (c .policy) ++ c .nonce
 
--- modes, flags and descriptor stand alike in both
 unfoldable pub policyAt : ℕ → Bytes → Policy
 policyAt version b = record { version = version; contents = getD b 1 0; names = getD b 2 0; flags = getD b 3 0; descriptor = take 8 (drop 4 b) }
 

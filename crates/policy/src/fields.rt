@@ -3,8 +3,9 @@ use crate::Policy;
 ghost use mathlib.Core.Path.{_≡_};
 ghost use Prim.Native.Nat.{_≤_};
 ghost use lib.ListN.{length, take, drop};
+ghost use lib.Seq.{sets};
 ghost use Rattle.lists.specs.Bytes.{zeros};
-ghost use Rattle.policy.specs.Policies.{policyAt};
+ghost use Rattle.policy.specs.Policies.{policyAt, fieldBytes};
 
 pub fn zeros8() -> [u8; 8]
     ensures { λ r. ⌜ r ≡ zeros 8 ⌝ }
@@ -18,21 +19,22 @@ pub fn zeros16() -> [u8; 16]
     [0u8; 16]
 }
 
+// The descriptor in the bytes from 4 to 11.
+fn descriptor_at(bytes: &[u8]) -> [u8; 8]
+    requires { ⌜ 12 ≤ length (now bytes) ⌝ }
+    ensures { λ r. ⌜ r ≡ take 8 (drop 4 (now (bytes .entry))) ⌝ }
+{
+    let mut d = zeros8();
+    lists::copy_to(&mut d, 0, &bytes[4..12]);
+    d
+}
+
 // A policy of this version, whose modes, flags and descriptor stand in the bytes from 1 to 11.
 pub fn policy_at(version: u8, bytes: &[u8]) -> Policy
     requires { ⌜ 12 ≤ length (now bytes) ⌝ }
     ensures { λ r. ⌜ r ≡ policyAt version (now (bytes .entry)) ⌝ }
 {
-    let d = [
-        bytes[4],
-        bytes[5],
-        bytes[6],
-        bytes[7],
-        bytes[8],
-        bytes[9],
-        bytes[10],
-        bytes[11],
-    ];
+    let d = descriptor_at(bytes);
     Policy {
         version: version,
         contents: bytes[1],
@@ -47,22 +49,18 @@ pub fn nonce_at(bytes: &[u8]) -> [u8; 16]
     requires { ⌜ length (now bytes) ≡ 28 ⌝ }
     ensures { λ r. ⌜ r ≡ take 16 (drop 12 (now (bytes .entry))) ⌝ }
 {
-    [
-        bytes[12],
-        bytes[13],
-        bytes[14],
-        bytes[15],
-        bytes[16],
-        bytes[17],
-        bytes[18],
-        bytes[19],
-        bytes[20],
-        bytes[21],
-        bytes[22],
-        bytes[23],
-        bytes[24],
-        bytes[25],
-        bytes[26],
-        bytes[27],
-    ]
+    let mut x = zeros16();
+    lists::copy_to(&mut x, 0, &bytes[12..28]);
+    x
+}
+
+// Writes the first byte, the modes, the flags and the descriptor to the start of a buffer.
+pub fn put_fields(out: &mut [u8], first: u8, p: Policy)
+    requires { ⌜ 12 ≤ length (now out) ⌝ }
+    ensures { λ _. ⌜ now (out .exit) ≡ sets (now (out .entry)) 0 (fieldBytes first p) ⌝ }
+{
+    let head = [first, p.contents, p.names, p.flags];
+    let d = p.descriptor;
+    lists::copy_to(out, 0, &head);
+    lists::copy_to(out, 4, &d);
 }

@@ -4,7 +4,7 @@ mod fields;
 use errno::Checked;
 use errno::Errno;
 ghost use mathlib.Core.Path.{_≡_};
-ghost use Rattle.policy.specs.Policies.{isPair, isValid, samePolicy, noPolicy, noContext, readPolicy, readContext, refusedPolicy, refusedContext, policyBytes, contextBytes};
+ghost use Rattle.policy.specs.Policies.{isPair, isMasterKeySize, isValid, samePolicy, noPolicy, noContext, readPolicy, readContext, refusedPolicy, refusedContext, policyBytes, contextBytes};
 
 // A policy: what a directory's files are encrypted with.
 pub struct Policy {
@@ -32,11 +32,18 @@ pub struct ContextRead {
     pub context: Context,
 }
 
-// The pairs of a contents mode and a names mode that are taken. A further pair is added here and in `masterKeySize`, `nameKeySize` and their like.
+// The pairs of a contents mode and a names mode that are taken. A further pair is added here and in `is_master_key_size`.
 fn is_pair(contents: u8, names: u8) -> bool
     ensures { λ r. ⌜ r ≡ isPair contents names ⌝ }
 {
     contents == 1 && names == 4
+}
+
+// Whether a master key of this many bytes is what a policy asks for. A further pair of modes would differ here.
+pub fn is_master_key_size(p: Policy, n: u8) -> bool
+    ensures { λ r. ⌜ r ≡ isMasterKeySize p n ⌝ }
+{
+    n == 64
 }
 
 pub fn is_valid(p: Policy) -> bool
@@ -72,6 +79,7 @@ pub fn same_policy(a: Policy, b: Policy) -> bool
     lists::same_bytes(&x, &y)
 }
 
+// All zeros, as in a freed record.
 fn no_policy() -> Policy
     ensures { λ r. ⌜ r ≡ noPolicy ⌝ }
 {
@@ -85,7 +93,7 @@ fn no_policy() -> Policy
     }
 }
 
-fn no_context() -> Context
+pub fn no_context() -> Context
     ensures { λ r. ⌜ r ≡ noContext ⌝ }
 {
     let p = no_policy();
@@ -162,21 +170,9 @@ fn refused_context() -> ContextRead
 pub fn policy_bytes(p: Policy) -> [u8; 12]
     ensures { λ r. ⌜ r ≡ policyBytes p ⌝ }
 {
-    let d = p.descriptor;
-    [
-        p.version,
-        p.contents,
-        p.names,
-        p.flags,
-        d[0],
-        d[1],
-        d[2],
-        d[3],
-        d[4],
-        d[5],
-        d[6],
-        d[7],
-    ]
+    let mut b = [0u8; 12];
+    fields::put_fields(&mut b, p.version, p);
+    b
 }
 
 // The 28 bytes of a context.
@@ -184,36 +180,9 @@ pub fn context_bytes(c: Context) -> [u8; 28]
     ensures { λ r. ⌜ r ≡ contextBytes c ⌝ }
 {
     let p = c.policy;
-    let d = p.descriptor;
     let x = c.nonce;
-    [
-        1,
-        p.contents,
-        p.names,
-        p.flags,
-        d[0],
-        d[1],
-        d[2],
-        d[3],
-        d[4],
-        d[5],
-        d[6],
-        d[7],
-        x[0],
-        x[1],
-        x[2],
-        x[3],
-        x[4],
-        x[5],
-        x[6],
-        x[7],
-        x[8],
-        x[9],
-        x[10],
-        x[11],
-        x[12],
-        x[13],
-        x[14],
-        x[15],
-    ]
+    let mut b = [0u8; 28];
+    fields::put_fields(&mut b, 1, p);
+    lists::copy_to(&mut b, 12, &x);
+    b
 }

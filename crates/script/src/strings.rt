@@ -102,11 +102,7 @@ fn lay_bytes(s: &[u8], out: &mut [u8])
     requires { ⌜ length (now s) ≤ length (now out) ⌝ }
     ensures { λ _. ⌜ now (out .exit) ≡ laidOver (now (out .entry)) (now (s .entry)) ⌝ }
 {
-    let mut i: usize = 0;
-    while i < s.len() {
-        out[i] = s[i];
-        i += 1;
-    }
+    lists::copy_to(out, 0, s);
 }
 
 fn hex_byte(high: u8, low: u8) -> u8

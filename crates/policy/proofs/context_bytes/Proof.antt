@@ -1,110 +1,39 @@
--- `context_bytes` is `contextBytes`: descriptor and nonce, read byte by byte, are their whole lists. Assumes nothing.
-use Rattle.policy.proofs.Reading.{context-listed}
+-- `context_bytes`: the fields and the nonce are one string, which fills all of the array. Assumes nothing.
+use mathlib.Core.Path.{_≡_, refl}
+use native.Mathlib.Omega.{arith}
+use lib.ListN.{length, replicate}
 use borrow.Author.Needs.{needs}
+use Rattle.policy.proofs.Writing.{descriptor-length, context-put}
 use Rattle.policy.proofs.context_bytes.Statement.{statement}
 use Rattle.policy.proofs.context_bytes.Tie as tie
 
-array-read-t7 : tie.Need-array-read-t7
-array-read-t7 c = search needs
+slice-aggregate-put-fields : tie.Need-slice-aggregate-put-fields
+slice-aggregate-put-fields c = search needs
 
-array-read-t10 : tie.Need-array-read-t10
-array-read-t10 c = search needs
+put-fields-requires : tie.Need-put-fields-requires
+put-fields-requires c κs = search needs
 
-array-read-t13 : tie.Need-array-read-t13
-array-read-t13 c = search needs
+slice-aggregate-copy-to : tie.Need-slice-aggregate-copy-to
+slice-aggregate-copy-to c = search needs
 
-array-read-t16 : tie.Need-array-read-t16
-array-read-t16 c = search needs
+slice-aggregate-copy-to-2 : tie.Need-slice-aggregate-copy-to-2
+slice-aggregate-copy-to-2 c = search needs
 
-array-read-t19 : tie.Need-array-read-t19
-array-read-t19 c = search needs
-
-array-read-t22 : tie.Need-array-read-t22
-array-read-t22 c = search needs
-
-array-read-t25 : tie.Need-array-read-t25
-array-read-t25 c = search needs
-
-array-read-t28 : tie.Need-array-read-t28
-array-read-t28 c = search needs
-
-array-read-t31 : tie.Need-array-read-t31
-array-read-t31 c = search needs
-
-array-read-t34 : tie.Need-array-read-t34
-array-read-t34 c = search needs
-
-array-read-t37 : tie.Need-array-read-t37
-array-read-t37 c = search needs
-
-array-read-t40 : tie.Need-array-read-t40
-array-read-t40 c = search needs
-
-array-read-t43 : tie.Need-array-read-t43
-array-read-t43 c = search needs
-
-array-read-t46 : tie.Need-array-read-t46
-array-read-t46 c = search needs
-
-array-read-t49 : tie.Need-array-read-t49
-array-read-t49 c = search needs
-
-array-read-t52 : tie.Need-array-read-t52
-array-read-t52 c = search needs
-
-array-read-t55 : tie.Need-array-read-t55
-array-read-t55 c = search needs
-
-array-read-t58 : tie.Need-array-read-t58
-array-read-t58 c = search needs
-
-array-read-t61 : tie.Need-array-read-t61
-array-read-t61 c = search needs
-
-array-read-t64 : tie.Need-array-read-t64
-array-read-t64 c = search needs
-
-array-read-t67 : tie.Need-array-read-t67
-array-read-t67 c = search needs
-
-array-read-t70 : tie.Need-array-read-t70
-array-read-t70 c = search needs
-
-array-read-t73 : tie.Need-array-read-t73
-array-read-t73 c = search needs
-
-array-read-t76 : tie.Need-array-read-t76
-array-read-t76 c = search needs
+copy-to-requires : tie.Need-copy-to-requires
+copy-to-requires c κs = let n : length (c .before .before .before .before .before .before .before .args .c .nonce) ≡ 16 = search needs in omega arith
 
 returns : tie.Need-returns
-returns c = context-listed (c .before .before .before .args .c) (search needs) (search needs)
+returns c =
+    let s = c .before .before .before .before .before .before .before .before .before in
+    context-put (replicate 28 0) _ _ (s .args .c) refl (search needs) (search needs) (c .before .before .before .before .before .put-fields .ensures) (c .before .copy-to .ensures)
 
 pub context-bytes-spec : {M : Type 1} → statement M
 context-bytes-spec =
     tie.close
     (tie.spec
-    array-read-t7
-    array-read-t10
-    array-read-t13
-    array-read-t16
-    array-read-t19
-    array-read-t22
-    array-read-t25
-    array-read-t28
-    array-read-t31
-    array-read-t34
-    array-read-t37
-    array-read-t40
-    array-read-t43
-    array-read-t46
-    array-read-t49
-    array-read-t52
-    array-read-t55
-    array-read-t58
-    array-read-t61
-    array-read-t64
-    array-read-t67
-    array-read-t70
-    array-read-t73
-    array-read-t76
+    slice-aggregate-put-fields
+    put-fields-requires
+    slice-aggregate-copy-to
+    slice-aggregate-copy-to-2
+    copy-to-requires
     returns)

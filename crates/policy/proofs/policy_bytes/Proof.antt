@@ -1,46 +1,19 @@
--- `policy_bytes` is `policyBytes`: the descriptor, read byte by byte, is the whole list. Assumes nothing.
-use Rattle.policy.proofs.Reading.{policy-listed}
+-- `policy_bytes`: the fields fill all of the array. Assumes nothing.
+use mathlib.Core.Path.{refl}
+use lib.ListN.{replicate}
 use borrow.Author.Needs.{needs}
+use Rattle.policy.proofs.Writing.{descriptor-length, policy-put}
 use Rattle.policy.proofs.policy_bytes.Statement.{statement}
 use Rattle.policy.proofs.policy_bytes.Tie as tie
 
-array-read-t5 : tie.Need-array-read-t5
-array-read-t5 c = search needs
+slice-aggregate-put-fields : tie.Need-slice-aggregate-put-fields
+slice-aggregate-put-fields c = search needs
 
-array-read-t8 : tie.Need-array-read-t8
-array-read-t8 c = search needs
-
-array-read-t11 : tie.Need-array-read-t11
-array-read-t11 c = search needs
-
-array-read-t14 : tie.Need-array-read-t14
-array-read-t14 c = search needs
-
-array-read-t17 : tie.Need-array-read-t17
-array-read-t17 c = search needs
-
-array-read-t20 : tie.Need-array-read-t20
-array-read-t20 c = search needs
-
-array-read-t23 : tie.Need-array-read-t23
-array-read-t23 c = search needs
-
-array-read-t26 : tie.Need-array-read-t26
-array-read-t26 c = search needs
+put-fields-requires : tie.Need-put-fields-requires
+put-fields-requires c κs = search needs
 
 returns : tie.Need-returns
-returns c = policy-listed (c .before .args .p) (search needs)
+returns c = let s = c .before .before .before in policy-put (replicate 12 0) _ (s .args .p) refl (descriptor-length (s .args .p) (s .good .0)) (c .before .put-fields .ensures)
 
 pub policy-bytes-spec : {M : Type 1} → statement M
-policy-bytes-spec =
-    tie.close
-    (tie.spec
-    array-read-t5
-    array-read-t8
-    array-read-t11
-    array-read-t14
-    array-read-t17
-    array-read-t20
-    array-read-t23
-    array-read-t26
-    returns)
+policy-bytes-spec = tie.close (tie.spec slice-aggregate-put-fields put-fields-requires returns)

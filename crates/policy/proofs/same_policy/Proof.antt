@@ -3,7 +3,7 @@ use mathlib.Core.Path.{sym}
 use borrow.Author.Tests.{eq-eqb}
 use Rattle.lists.proofs.Predicates.{predicates, and-go}
 use Rattle.policy.specs.Policies.{samePolicy}
-use Rattle.policy.proofs.Listing.{descriptor-length}
+use Rattle.policy.proofs.Writing.{descriptor-length}
 use borrow.Author.Needs.{needs}
 use Rattle.policy.proofs.same_policy.Statement.{statement}
 use Rattle.policy.proofs.same_policy.Tie as tie

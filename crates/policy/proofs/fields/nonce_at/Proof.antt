@@ -1,82 +1,38 @@
--- `nonce_at` is the bytes from 12 to 27: read one by one, they are a part of the list (`listed`). Assumes nothing.
-use Rattle.policy.proofs.Listing.{listed}
-use denote.Ref.{now}
-use native.Mathlib.Omega.{arith}
+-- `nonce_at`: what fills all of the array is what it holds. Assumes nothing.
+use Rattle.lists.proofs.Copies.{copied-whole}
 use borrow.Author.Needs.{needs}
 use Rattle.policy.proofs.fields.nonce_at.Statement.{statement}
 use Rattle.policy.proofs.fields.nonce_at.Tie as tie
 
-shared-slice-read-t3 : tie.Need-shared-slice-read-t3
-shared-slice-read-t3 c = search needs
+zeros16-requires : tie.Need-zeros16-requires
+zeros16-requires c κs = search needs
 
-shared-slice-read-t5 : tie.Need-shared-slice-read-t5
-shared-slice-read-t5 c = search needs
+slice-aggregate-copy-to : tie.Need-slice-aggregate-copy-to
+slice-aggregate-copy-to c = search needs
 
-shared-slice-read-t7 : tie.Need-shared-slice-read-t7
-shared-slice-read-t7 c = search needs
+sub-copy-to : tie.Need-sub-copy-to
+sub-copy-to c = search needs
 
-shared-slice-read-t9 : tie.Need-shared-slice-read-t9
-shared-slice-read-t9 c = search needs
+part-copy-to-start : tie.Need-part-copy-to-start
+part-copy-to-start c = search needs
 
-shared-slice-read-t11 : tie.Need-shared-slice-read-t11
-shared-slice-read-t11 c = search needs
+part-copy-to-end : tie.Need-part-copy-to-end
+part-copy-to-end c = search needs
 
-shared-slice-read-t13 : tie.Need-shared-slice-read-t13
-shared-slice-read-t13 c = search needs
-
-shared-slice-read-t15 : tie.Need-shared-slice-read-t15
-shared-slice-read-t15 c = search needs
-
-shared-slice-read-t17 : tie.Need-shared-slice-read-t17
-shared-slice-read-t17 c = search needs
-
-shared-slice-read-t19 : tie.Need-shared-slice-read-t19
-shared-slice-read-t19 c = search needs
-
-shared-slice-read-t21 : tie.Need-shared-slice-read-t21
-shared-slice-read-t21 c = search needs
-
-shared-slice-read-t23 : tie.Need-shared-slice-read-t23
-shared-slice-read-t23 c = search needs
-
-shared-slice-read-t25 : tie.Need-shared-slice-read-t25
-shared-slice-read-t25 c = search needs
-
-shared-slice-read-t27 : tie.Need-shared-slice-read-t27
-shared-slice-read-t27 c = search needs
-
-shared-slice-read-t29 : tie.Need-shared-slice-read-t29
-shared-slice-read-t29 c = search needs
-
-shared-slice-read-t31 : tie.Need-shared-slice-read-t31
-shared-slice-read-t31 c = search needs
-
-shared-slice-read-t33 : tie.Need-shared-slice-read-t33
-shared-slice-read-t33 c = search needs
+copy-to-requires : tie.Need-copy-to-requires
+copy-to-requires c κs = search needs
 
 returns : tie.Need-returns
-returns c =
-    let s = c .before .before .before .before .before .before .before .before .before .before .before .before .before .before .before .before in
-    listed 16 12 (now (s .args .bytes)) (omega arith)
+returns c = copied-whole _ _ _ (c .before .copy-to .ensures) (search needs)
 
 pub nonce-at-spec : {M : Type 1} → statement M
 nonce-at-spec =
     tie.close
     (tie.spec
-    shared-slice-read-t3
-    shared-slice-read-t5
-    shared-slice-read-t7
-    shared-slice-read-t9
-    shared-slice-read-t11
-    shared-slice-read-t13
-    shared-slice-read-t15
-    shared-slice-read-t17
-    shared-slice-read-t19
-    shared-slice-read-t21
-    shared-slice-read-t23
-    shared-slice-read-t25
-    shared-slice-read-t27
-    shared-slice-read-t29
-    shared-slice-read-t31
-    shared-slice-read-t33
+    zeros16-requires
+    slice-aggregate-copy-to
+    sub-copy-to
+    part-copy-to-start
+    part-copy-to-end
+    copy-to-requires
     returns)

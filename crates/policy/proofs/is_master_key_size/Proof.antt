@@ -1,8 +1,8 @@
 -- `is_master_key_size` is `isMasterKeySize`, which computes. Assumes nothing.
 use mathlib.Core.Path.{refl}
 use Rattle.policy.specs.Policies.{isMasterKeySize}
-use Rattle.lookup.proofs.keyring.is_master_key_size.Statement.{statement}
-use Rattle.lookup.proofs.keyring.is_master_key_size.Tie as tie
+use Rattle.policy.proofs.is_master_key_size.Statement.{statement}
+use Rattle.policy.proofs.is_master_key_size.Tie as tie
 
 returns : tie.Need-returns
 unfolding isMasterKeySize

@@ -1,0 +1,32 @@
+-- Bytes copied into a buffer one after the other: what a loop has copied so far, and that a copy to the start lays the bytes over it.
+-- Assumes nothing.
+use Prim.Native.Nat.{ℕ, suc, _+_, _≤_, _<_}
+use native.Mathlib.Omega.{arith}
+use native.Mathlib.Numerals.{add-one}
+use native.Mathlib.Nat.{zero-add}
+use mathlib.Core.Path.{_≡_, sym, _∙_, ap}
+use mathlib.Core.List.{[], _∷_, _++_, append-nil}
+use lib.ListN.{length, take, drop, set, getD, drop-of-length-le}
+use lib.Seq.{sets, sets-eq, take-suc, length-take-le}
+use Rattle.lists.specs.Bytes.{Bytes, laidOver}
+
+-- one string after another is one string
+pub sets-more : (b : Bytes) (at : ℕ) (s t : Bytes) → sets (sets b at s) (at + length s) t ≡ sets b at (s ++ t)
+sets-more b at [] t = ap (λ (i : ℕ). sets b i t) (omega arith)
+sets-more b at (x ∷ s) t = ap (λ (i : ℕ). sets (sets (set b at x) (suc at) s) i t) (omega arith) ∙ sets-more (set b at x) (suc at) s t
+
+-- one byte more of a string
+pub sets-next : (b : Bytes) (at : ℕ) (s : Bytes) (i : ℕ) → i < length s → set (sets b at (take i s)) (at + i) (getD s i 0) ≡ sets b at (take (i + 1) s)
+sets-next b at s i h =
+    ap (λ (k : ℕ). set (sets b at (take i s)) (at + k) (getD s i 0)) (sym (length-take-le i s (omega arith)))
+    ∙ sets-more b at (take i s) (getD s i 0 ∷ [])
+    ∙ ap (sets b at) (sym (take-suc s i 0 h) ∙ ap (λ (k : ℕ). take k s) (sym (add-one i)))
+
+pub copied-over : (b s : Bytes) → length s ≤ length b → sets b 0 s ≡ laidOver b s
+copied-over b s h = sets-eq s b 0 (omega arith) ∙ rw zero-add
+
+-- a string that fills the buffer is all that stands there
+pub copied-whole : (b c s : Bytes) → c ≡ sets b 0 s → length s ≡ length b → c ≡ s
+copied-whole b c s e h =
+    let over : length b ≤ length s = omega arith in
+    e ∙ copied-over b s (omega arith) ∙ ap (λ (r : Bytes). s ++ r) (drop-of-length-le b over) ∙ append-nil s
