@@ -19,6 +19,9 @@ pub mod PolicyClause
 pub mod Bytewise
 pub mod SealedOpens
 pub mod ShownApart
+-- names and keys in every run
+mod NamesSince
+pub mod KeyedNames
 -- the two runs
 mod Twin
 mod TwinLookup

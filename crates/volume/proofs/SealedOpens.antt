@@ -162,7 +162,7 @@ module _ (C : Cipher) (law : Lawful C) where
     reads e =
         ap (λ (s : Bytes). readPadded flags (C .decryptName (nameKey C v dir) s)) (if-true _ _ e) ∙ read-stored C law (nameKey C v dir) flags n key-bytes hn good
 
-    readable : isUnreadable C v dir (stored C v dir n) ≡ false
+    pub readable : isUnreadable C v dir (stored C v dir n) ≡ false
     unfolding isUnreadable
     readable =
         by-test (dir .encrypted)
@@ -219,7 +219,7 @@ module _ (C : Cipher) (law : Lawful C) where
     abbrev after : Volume
     after = record { keys = v .keys; inodes = is; entries = es }
 
-    stored-same : (dir : Inode) (n : Bytes) → stored C after dir n ≡ stored C v dir n
+    pub stored-same : (dir : Inode) (n : Bytes) → stored C after dir n ≡ stored C v dir n
     unfolding stored nameKey derivedKey keyOf keySlotOf
     stored-same dir n = refl
 

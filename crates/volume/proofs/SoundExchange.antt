@@ -81,7 +81,7 @@ module _ (v : Volume) (ok : Inv v) where
     abbrev taking : ℕ → ℕ → Entry
     taking e n = withInode (slotAt v e) (slotAt v n .inode)
 
-    look : (e : ℕ) → getD swapped e noEntry ≡ taking e (σ e)
+    pub look : (e : ℕ) → getD swapped e noEntry ≡ taking e (σ e)
     look e =
         by-eq e b
         (λ q.

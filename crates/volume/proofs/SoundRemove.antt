@@ -46,10 +46,10 @@ module _ (v : Volume) (ok : Inv v) (e : ℕ) (u : InUse (slotAt v e)) (empty : h
   at-e : getD left e noEntry ≡ noEntry
   at-e = getD-set-same (v .entries) e noEntry noEntry (used-range (v .entries) e u)
 
-  left-other : (j : ℕ) → InUse (getD left j noEntry) → j ≢ e
+  pub left-other : (j : ℕ) → InUse (getD left j noEntry) → j ≢ e
   left-other j uj q = true≢false (sym (ap isVacant at-e) ∙ ap (λ (n : ℕ). isVacant (getD left n noEntry)) (sym q) ∙ uj)
 
-  left-same : (j : ℕ) → j ≢ e → getD left j noEntry ≡ slotAt v j
+  pub left-same : (j : ℕ) → j ≢ e → getD left j noEntry ≡ slotAt v j
   left-same j ne = getD-set-other (v .entries) e j noEntry noEntry ne
 
   climbs-on : (j : ℕ) → nodeAt v j .kind ≡ 1 → j ≢ gone .0 → Rooted left j

@@ -178,7 +178,7 @@ unfolding fresh
 by-inode P r n zero = r
 by-inode P r n (suc i) = subst (P (suc i)) (sym (all-same (inodeSlots - 1) i noInode)) (n i)
 
-fresh-unused : (e : ℕ) → isVacant (slotAt fresh e) ≡ false → ⊥
+pub fresh-unused : (e : ℕ) → isVacant (slotAt fresh e) ≡ false → ⊥
 fresh-unused e u = true≢false (sym (ap isVacant (fresh-entry e)) ∙ u)
 
 fresh-inv : Inv fresh

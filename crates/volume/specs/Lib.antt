@@ -10,4 +10,5 @@ pub mod PolicyClause
 pub mod SealedOpens
 pub mod ShownApart
 pub mod TwoRuns
+pub mod KeyedNames
 pub mod Cases

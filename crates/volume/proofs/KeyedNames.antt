@@ -1,0 +1,223 @@
+-- Names and keys in every run: each entry in use has the name that it was given, stored under the key that its directory had then, since a request gives an entry its
+-- name or leaves it. So what is read with that key is what was given, and EUCLEAN comes of another key. Assumes nothing.
+use Prim.Native.Nat.{ℕ, _≤_}
+use native.Mathlib.Omega.{arith}
+use mathlib.Core.Path.{_≡_, refl, sym, _∙_, ap, ap₂, subst}
+use mathlib.Core.Logic.{_≢_}
+use mathlib.Core.Bool.{Bool, true, false, cond, not, _&&_, true≢false, false≢true}
+use mathlib.Core.List.{List, [], _∷_, _++_, List·Memᴰ·head, List·Memᴰ·tail}
+use mathlib.Core.Option.{Option, some, none}
+use lib.ListN.{length, take}
+use lib.Dec.{ltb}
+use borrow.Author.Tests.{ltb-false}
+use Rattle.lists.specs.Bytes.{Bytes, ByteList}
+use Rattle.lists.proofs.Tests.{and-left, and-right, if-false}
+use Rattle.lists.proofs.Slots.{by-test}
+use Rattle.errno.specs.Refusals.{number, _⇒_, _>>_}
+use Rattle.errno.specs.declared.Errno.the-variants.{ENOENT, ERANGE, EUCLEAN}
+use Rattle.errno.specs.declared.Checked.{Checked}
+use Rattle.errno.specs.declared.Checked.the-variants.{Fine, Refused}
+use Rattle.policy.specs.Policies.{nameKeySize}
+use Rattle.fscrypt.specs.Cipher.{Cipher, Lawful, fscrypt}
+use Rattle.fscrypt.specs.Names.{nameCheck, encrypted}
+use Rattle.fscrypt.proofs.Lawfulness.{fscrypt-lawful}
+use Rattle.volume.specs.Volume.{nameOf, fresh}
+use Rattle.volume.specs.Request.{Request, show, Answer, refused, shown, Outcome, outcome}
+use Rattle.volume.specs.Lookup.{masterKey, descriptorOf, keyPresent, keyNeeded, entryAt, isVacant}
+use Rattle.volume.specs.Checks.{derivedKey, nameKey, stored, isUnreadable, formIn, showCheck}
+use Rattle.volume.specs.Step.{lent, check, effect, settle, step}
+use Rattle.volume.specs.Run.{Moment, momentOf, runFrom, run}
+use Rattle.volume.specs.Sound.{Sound, Used, slotAt, dirOf}
+use Rattle.volume.specs.SealedOpens.{Bytewise}
+use Rattle.volume.specs.TwoRuns.{Typed, AllTyped, Names, later, after, namesFrom, given}
+use Rattle.volume.specs.KeyedNames.{Keys, keyFor, renewed, keysAfter, keysFrom, namedUnder, HasKey, WrongKey, ShownByKey, KeyedNames, EveryRunKeyed}
+use Rattle.volume.specs.declared.EntryNumber.{EntryNumber}
+use Rattle.volume.specs.declared.Inode.{Inode}
+use Rattle.volume.specs.declared.Volume.{Volume}
+use Rattle.volume.specs.declared.ShownEntry.{ShownEntry}
+use Rattle.volume.specs.declared.Form.{Form}
+use Rattle.volume.specs.declared.Form.the-variants.{Plain, Decrypted, Encoded}
+use Rattle.volume.proofs.SoundInvariant.{pass}
+use Rattle.volume.proofs.Soundness.{fresh-sound, fresh-unused, sound-kept}
+use Rattle.volume.proofs.Bytewise.{fresh-bytes, bytewise-kept}
+use Rattle.volume.proofs.SealedOpens.{was-fine, was-done, readable, shows}
+use Rattle.volume.proofs.NamesSince.{Since, stayed, gained, step-since}
+
+module _ (C : Cipher) where
+  -- ---- the name of an entry and its key
+
+  -- a plain name as a directory stores it under a master key
+  abbrev storedUnder : Bytes → Inode → Bytes → Bytes
+  storedUnder key dir n =
+      cond (dir .encrypted) (encrypted C (take (nameKeySize (dir .context .policy)) (C .derive key (dir .context .nonce))) (dir .context .policy .flags) n) n
+
+  stored-under : (v : Volume) (dir : Inode) (n : Bytes) → stored C v dir n ≡ storedUnder (masterKey v (descriptorOf dir)) dir n
+  unfolding stored nameKey derivedKey
+  stored-under v dir n = refl
+
+  -- a plain directory stores a name as it is
+  same-stored : (key key′ : Bytes) (dir : Inode) (n : Bytes) → (dir .encrypted ≡ true → key ≡ key′) → storedUnder key dir n ≡ storedUnder key′ dir n
+  same-stored key key′ dir n q =
+      by-test (dir .encrypted) (λ t. ap (λ (k : Bytes). storedUnder k dir n) (q t)) (λ t. if-false _ _ t ∙ sym (if-false _ _ t))
+
+  -- a name that was given, if any, and that this directory stores as s under a key
+  record Named (given : Option Bytes) (key : Bytes) (dir : Inode) (s : Bytes) : Type 0 where
+    name : Bytes
+    is-given : given ≡ some name
+    is-plain : nameCheck name ≡ Fine
+    bytes : ByteList name
+    is-stored : s ≡ storedUnder key dir name
+
+  abbrev AllNamed : Names → Keys → Volume → Type 0
+  AllNamed g k v = (e : ℕ) → Used v e → Named (g e) (k e) (dirOf v e) (nameOf (slotAt v e))
+
+  -- ---- one request
+
+  named-since : (g : Names) (k : Keys) (v w : Volume) (o : Option Bytes) (e : ℕ) → AllNamed g k v → Since C v w o e
+      → Named (later o (g e)) (renewed o (keyFor w e) (k e)) (dirOf w e) (nameOf (slotAt w e))
+  named-since g k v w o e h (stayed q u n d) =
+      let x = h e u in
+      record {
+        name = x .name;
+        is-given = ap (λ (o : Option Bytes). later o (g e)) q ∙ x .is-given;
+        is-plain = x .is-plain;
+        bytes = x .bytes;
+        is-stored = n ∙ x .is-stored
+            ∙ ap₂ (λ (o : Option Bytes) (dir : Inode). storedUnder (renewed o (keyFor w e) (k e)) dir (x .name)) (sym q) (sym d);
+      }
+  named-since g k v w o e h (gained n q good bytes is) =
+      record {
+        name = n;
+        is-given = ap (λ (o : Option Bytes). later o (g e)) q;
+        is-plain = good;
+        bytes = bytes;
+        is-stored = is ∙ stored-under w (dirOf w e) n ∙ ap (λ (o : Option Bytes). storedUnder (renewed o (keyFor w e) (k e)) (dirOf w e) n) (sym q);
+      }
+
+  module _ (law : Lawful C) where
+    named-kept : (g : Names) (k : Keys) (v : Volume) → Sound v → AllNamed g k v → (r : Request) → Typed r
+        → AllNamed (after g r ((step C v r) .answer)) (keysAfter k (momentOf r (step C v r))) ((step C v r) .volume)
+    unfolding momentOf
+    named-kept g k v s h r t e u = named-since g k v ((step C v r) .volume) _ e h (step-since C law v s r t e u)
+
+    -- ---- show
+
+    module _ (g : Names) (k : Keys) (v : Volume) (w : Bytewise v) (all : AllNamed g k v) (e : EntryNumber) where
+      abbrev dir : Inode
+      dir = dirOf v (e .0)
+
+      is-stored-now : (u : Used v (e .0)) → HasKey v (e .0) (k (e .0)) → nameOf (entryAt v e) ≡ stored C v dir (all (e .0) u .name)
+      is-stored-now u same =
+          let x = all (e .0) u in
+          x .is-stored ∙ same-stored (k (e .0)) (keyFor v (e .0)) dir (x .name) (λ t. sym (same t)) ∙ sym (stored-under v dir (x .name))
+
+      unreadable-wrong : Used v (e .0) → isUnreadable C v dir (nameOf (entryAt v e)) ≡ true → WrongKey v (e .0) (k (e .0))
+      unfolding isUnreadable keyNeeded
+      unreadable-wrong u h =
+          let x = all (e .0) u in
+          let enc : dir .encrypted ≡ true = and-left (dir .encrypted) _ h in
+          let here : keyPresent v dir ≡ true = and-left (keyPresent v dir) _ (and-right (dir .encrypted) _ h) in
+          let held : keyNeeded v dir ≡ false = ap₂ (λ (a b : Bool). a && not b) enc here in
+          record {
+            in-encrypted = enc;
+            present = here;
+            another = λ q.
+                true≢false (sym h ∙ ap (isUnreadable C v dir) (is-stored-now u (λ t. q))
+                ∙ readable C law v w dir (w .nonces (slotAt v (e .0) .parent .0)) (x .name) (x .bytes) (x .is-plain) held);
+          }
+
+      unclean-show : (b : Bytes) → (step C v (show e b)) .answer ≡ refused (number EUCLEAN) → WrongKey v (e .0) (k (e .0))
+      unfolding step lent check effect settle showCheck _>>_ _⇒_
+      unclean-show b h =
+          let p = tests (ltb (length b) 255) (isVacant (entryAt v e)) (isUnreadable C v dir (nameOf (entryAt v e))) _ _ h in
+          unreadable-wrong (p .0) (p .1)
+        where
+          tests : (a c d : Bool) (s : ShownEntry) (b′ : Bytes)
+              → (settle v b (_>>_ (a ⇒ ERANGE) (_>>_ (c ⇒ ENOENT) (_>>_ (d ⇒ EUCLEAN) Fine))) (outcome (shown s) b′ v)) .answer ≡ refused (number EUCLEAN)
+              → (c ≡ false) × (d ≡ true)
+          tests true c d s b′ h = let z : number ERANGE ≡ number EUCLEAN = cc in absurd (omega (arith, z))
+          tests false true d s b′ h = let z : number ENOENT ≡ number EUCLEAN = cc in absurd (omega (arith, z))
+          tests false false true s b′ h = (refl, refl)
+          tests false false false s b′ h = let z : _≡_ {A = ℕ} 0 1 = cc in absurd (omega arith)
+
+      named-show : HasKey v (e .0) (k (e .0)) → (b : Bytes) (s : ShownEntry) → (step C v (show e b)) .answer ≡ shown s → s .form ≢ Encoded
+          → g (e .0) ≡ some (take (s .len) ((step C v (show e b)) .buffer))
+      unfolding check effect showCheck formIn keyNeeded
+      named-show same b s h f =
+          let na : (m : ℕ) → refused m ≢ shown s = λ m q. let z : _≡_ {A = ℕ} 0 1 = cc in absurd (omega arith) in
+          let eff = was-done C v (show e b) (shown s) na h in
+          pass _ ERANGE _ (was-fine C v (show e b) (shown s) na h) λ h₁ k₁.
+          pass _ ENOENT _ k₁ λ h₂ k₂.
+          let x = all (e .0) h₂ in
+          let form : formIn v dir ≡ s .form = form-of (ap (λ (o : Outcome). o .answer) (sym eff) ∙ h) in
+          let held : keyNeeded v dir ≡ false = with-key (dir .encrypted) (keyPresent v dir) (λ q. f (sym form ∙ q)) in
+          let r = shows C law v w dir (w .nonces (slotAt v (e .0) .parent .0)) (x .name) (x .bytes) (x .is-plain) held e h₂ refl (is-stored-now h₂ same) b (ltb-false (length b) 255 h₁) in
+          x .is-given ∙ ap some (sym (r .3) ∙ ap (λ (n : ℕ). take n ((step C v (show e b)) .buffer)) (len-of (sym (r .1) ∙ h)))
+        where
+          with-key : (a b : Bool) → cond a (cond b Decrypted Encoded) Plain ≢ Encoded → (a && not b) ≡ false
+          with-key true true f = refl
+          with-key true false f = absurd (f refl)
+          with-key false b f = refl
+
+          form-of : {s t : ShownEntry} → shown s ≡ shown t → s .form ≡ t .form
+          form-of q = cc
+
+          len-of : {s t : ShownEntry} → shown s ≡ shown t → s .len ≡ t .len
+          len-of q = cc
+
+    shown-volume : (v : Volume) (e : EntryNumber) (b : Bytes) → (step C v (show e b)) .volume ≡ v
+    unfolding step settle effect
+    shown-volume v e b = go (check C v (show e b))
+      where
+        go : (c : Checked) → (settle v (lent (show e b)) c (effect C v (show e b))) .volume ≡ v
+        go Fine = refl
+        go (Refused n) = refl
+
+    moment-right : (g : Names) (k : Keys) (v : Volume) → Bytewise v → AllNamed g k v → (r : Request) → ShownByKey g k (momentOf r (step C v r))
+    unfolding momentOf
+    moment-right g k v w all r =
+        record {
+          unclean = λ e b q.
+              subst (λ (r : Request). (step C v r) .answer ≡ refused (number EUCLEAN) → WrongKey ((step C v r) .volume) (e .0) (k (e .0))) (sym q)
+              (λ h. subst (λ (x : Volume). WrongKey x (e .0) (k (e .0))) (sym (shown-volume v e b)) (unclean-show g k v w all e b h));
+          named = λ e b q.
+              subst (λ (r : Request). HasKey ((step C v r) .volume) (e .0) (k (e .0)) → (s : ShownEntry) → (step C v r) .answer ≡ shown s → s .form ≢ Encoded
+              → g (e .0) ≡ some (take (s .len) ((step C v r) .buffer))) (sym q)
+              (λ same. named-show g k v w all e (subst (λ (x : Volume). HasKey x (e .0) (k (e .0))) (shown-volume v e b) same) b);
+        }
+
+    -- ---- runs
+
+    abbrev RunRight : Names → Keys → List Moment → Type 0
+    RunRight g k [] = Unit {0}
+    RunRight g k (m ∷ ms) = ShownByKey g k m × RunRight (after g (m .request) (m .answer)) (keysAfter k m) ms
+
+    run-right : (rs : List Request) → AllTyped rs → (g : Names) (k : Keys) (v : Volume) → Sound v → Bytewise v → AllNamed g k v → RunRight g k (runFrom C v rs)
+    unfolding runFrom momentOf
+    run-right [] t g k v s w all = tt
+    run-right (r ∷ rs) t g k v s w all =
+        let tr = t r (List·Memᴰ·head refl) in (
+          moment-right g k v w all r,
+          run-right rs (λ q m. t q (List·Memᴰ·tail m)) _ _ ((step C v r) .volume) (sound-kept C law v s r tr) (bytewise-kept C v w r tr) (named-kept g k v s all r tr),
+        )
+
+    right-at : (past : List Moment) (m : Moment) (next : List Moment) (g : Names) (k : Keys) → RunRight g k (past ++ (m ∷ next)) → ShownByKey (namesFrom g past) (keysFrom k past) m
+    unfolding namesFrom keysFrom
+    right-at [] m next g k h = h .0
+    right-at (p ∷ past) m next g k h = right-at past m next (after g (p .request) (p .answer)) (keysAfter k p) (h .1)
+
+pub every-run-keyed : (C : Cipher) → Lawful C → EveryRunKeyed C
+every-run-keyed C law rs t past next m q =
+    let right = run-right C law rs t (λ e. none) (λ e. []) fresh fresh-sound fresh-bytes (λ e u. absurd (fresh-unused e u)) in
+    right-at C law past m next (λ e. none) (λ e. []) (subst (RunRight C law (λ e. none) (λ e. [])) q right)
+
+-- the theorem, of the ciphers that are used
+pub every-run-keyed-fscrypt : EveryRunKeyed fscrypt
+every-run-keyed-fscrypt = every-run-keyed fscrypt fscrypt-lawful
+
+-- in plain words: with the key under which the entry was named, show never says EUCLEAN
+pub same-key-clean : (C : Cipher) → Lawful C → (rs : List Request) → AllTyped rs → (past next : List Moment) (m : Moment) → run C rs ≡ past ++ (m ∷ next)
+    → (e : EntryNumber) (b : Bytes) → m .request ≡ show e b → HasKey (m .volume) (e .0) (namedUnder past (e .0)) → m .answer ≢ refused 117
+same-key-clean C law rs t past next m q e b r same h =
+    let wrong = every-run-keyed C law rs t past next m q .unclean e b r h in
+    wrong .another (same (wrong .in-encrypted))

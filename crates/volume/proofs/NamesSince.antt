@@ -1,0 +1,188 @@
+-- What a request does to the stored name of an entry that is in use after it: it gave the entry this name and stored it under the key that is on the keyring, or it
+-- left the stored name and the entry's directory as they were. Assumes nothing.
+use Prim.Native.Nat.{ℕ, _<_}
+use mathlib.Core.Path.{_≡_, refl, sym, _∙_, ap, subst}
+use mathlib.Core.Logic.{_≢_}
+use mathlib.Core.Bool.{true, false, not}
+use mathlib.Core.List.{List}
+use mathlib.Core.Option.{Option, some, none}
+use lib.ListN.{length, getD, set}
+use lib.Seq.{getD-set-same, getD-set-other}
+use Rattle.lists.specs.Bytes.{Bytes, ByteList}
+use Rattle.lists.proofs.Tests.{and-known, if-true, if-false, eqb-self, eqb-other}
+use Rattle.lists.proofs.Slots.{by-eq, by-cond, search-room}
+use Rattle.errno.specs.declared.Errno.the-variants.{EPERM, ENOENT, EEXIST, ENOTDIR, EINVAL, ENOSPC, ENOTEMPTY, ENOTUNIQ, ENOKEY}
+use Rattle.errno.specs.declared.Checked.{Checked}
+use Rattle.errno.specs.declared.Checked.the-variants.{Fine, Refused}
+use Rattle.errno.proofs.Chains.{passed}
+use Rattle.policy.specs.Policies.{policyCheck}
+use Rattle.fscrypt.specs.Cipher.{Cipher, Lawful}
+use Rattle.fscrypt.specs.Names.{nameCheck}
+use Rattle.volume.specs.Volume.{entrySlots, noInode, noEntry, nameOf, entrySlot}
+use Rattle.volume.specs.Request.{Request, addKey, removeKey, setPolicy, getPolicy, create, link, rename, exchange, remove, find, show, seal, unseal, Outcome}
+use Rattle.volume.specs.Lookup.{inodeAt, freeInode, entryAt, isVacant, freeEntry, isHeld}
+use Rattle.volume.specs.Checks.{stored, setPolicyCheck, createCheck, linkCheck, renameCheck, exchangeCheck, removeCheck}
+use Rattle.volume.specs.Step.{childOf, withoutUnheld, lent, check, effect, settle, step}
+use Rattle.volume.specs.Sound.{Sound, Used, nodeAt, slotAt, dirOf}
+use Rattle.volume.specs.TwoRuns.{Typed, onlyAt, named, naming, namedBy}
+use Rattle.volume.specs.declared.InodeNumber.{InodeNumber}
+use Rattle.volume.specs.declared.EntryNumber.{EntryNumber}
+use Rattle.volume.specs.declared.Inode.{Inode}
+use Rattle.volume.specs.declared.Entry.{Entry}
+use Rattle.volume.specs.declared.Volume.{Volume}
+use Rattle.volume.proofs.SoundCore.{nodeIn, slot-name}
+use Rattle.volume.proofs.SoundClimb.{num}
+use Rattle.volume.proofs.SoundInvariant.{pass, is-directory, one≢zero, used-range}
+use Rattle.volume.proofs.SoundSetPolicy.{none-in}
+use Rattle.volume.proofs.SoundCreate.{free-kind}
+use Rattle.volume.proofs.SoundExchange.{look}
+use Rattle.volume.proofs.SoundRemove.{left-other, left-same}
+use Rattle.volume.proofs.Soundness.{sound-inv}
+use Rattle.volume.proofs.SealedOpens.{stored-same}
+
+-- of an entry e in use on w, the volume that a request left of v, which gave e the name o if any
+pub data Since (C : Cipher) (v w : Volume) (o : Option Bytes) (e : ℕ) : Type 0 where
+  stayed : o ≡ none → Used v e → nameOf (slotAt w e) ≡ nameOf (slotAt v e) → dirOf w e ≡ dirOf v e → Since C v w o e
+  gained : (n : Bytes) → o ≡ some n → nameCheck n ≡ Fine → ByteList n → nameOf (slotAt w e) ≡ stored C w (dirOf w e) n → Since C v w o e
+
+module _ (C : Cipher) (law : Lawful C) (v : Volume) (s : Sound v) where
+  -- what is claimed of each request that is done
+  abbrev Leaves : Request → Type 0
+  Leaves r = (j : ℕ) → Used ((effect C v r) .volume) j → Since C v ((effect C v r) .volume) (namedBy r ((effect C v r) .answer) j) j
+
+  -- ---- an entry is stored
+
+  module _ (is : List Inode) (e : ℕ) (p i : InodeNumber) (n : Bytes) (room : e < length (v .entries)) (good : nameCheck n ≡ Fine) (bytes : ByteList n)
+      (there : nodeIn is (p .0) ≡ inodeAt v p) (others : (j : ℕ) → Used v j → nodeIn is (slotAt v j .parent .0) ≡ dirOf v j) where
+    abbrev new : Entry
+    new = entrySlot p i (stored C v (inodeAt v p) n)
+
+    abbrev es : List Entry
+    es = set (v .entries) e new
+
+    abbrev w : Volume
+    w = record { keys = v .keys; inodes = is; entries = es }
+
+    stored-since : (j : ℕ) → Used w j → Since C v w (onlyAt (record { 0 = e }) n j) j
+    stored-since j u =
+        by-eq j e
+        (λ q.
+        subst (λ (m : ℕ). Since C v w (onlyAt (record { 0 = e }) n m) m) (sym q)
+        (gained n (if-true _ _ (eqb-self e)) good bytes
+        (ap nameOf here ∙ slot-name p i (stored C v (inodeAt v p) n) ∙ sym (stored-same C law v is es (inodeAt v p) n) ∙ ap (λ (d : Inode). stored C w d n) (sym dir))))
+        (λ ne.
+        let same : slotAt w j ≡ slotAt v j = getD-set-other (v .entries) e j new noEntry ne in
+        let used : Used v j = ap isVacant (sym same) ∙ u in
+        stayed (if-false _ _ (eqb-other j e ne)) used (ap nameOf same) (ap (λ (x : Entry). nodeIn is (x .parent .0)) same ∙ others j used))
+      where
+        here : slotAt w e ≡ new
+        here = getD-set-same (v .entries) e new noEntry room
+
+        dir : dirOf w e ≡ inodeAt v p
+        dir = ap (λ (x : Entry). nodeIn is (x .parent .0)) here ∙ there
+
+  create-since : (p : InodeNumber) (kind : ℕ) (n x : Bytes) → ByteList n → createCheck C v p kind n x ≡ Fine → Leaves (create p kind n x)
+  unfolding effect createCheck freeEntry namedBy naming named
+  create-since p kind n x bytes h =
+      let fine = passed _ _ h in
+      pass _ EINVAL _ (fine .1) λ h₂ k₂.
+      let dir = passed _ _ k₂ in
+      pass _ ENOKEY _ (dir .1) λ h₄ k₄.
+      pass _ EEXIST _ k₄ λ h₅ k₅.
+      pass _ ENOTUNIQ _ k₅ λ h₆ k₆.
+      pass _ ENOSPC _ k₆ λ h₇ k₇.
+      pass _ ENOSPC _ k₇ λ h₈ k₈.
+      stored-since _ (freeEntry v) p (num (freeInode v)) n (search-room isVacant (v .entries) noEntry entrySlots (s .entry-slots) h₈) (fine .0) bytes
+      (other (p .0) (is-directory v p (dir .0)))
+      (λ j u. other (slotAt v j .parent .0) (s .parents j u))
+    where
+      other : (j : ℕ) → nodeAt v j .kind ≡ 1 → nodeIn (set (v .inodes) (freeInode v) (childOf (inodeAt v p) kind x)) j ≡ nodeAt v j
+      other j k = getD-set-other (v .inodes) (freeInode v) j (childOf (inodeAt v p) kind x) noInode (λ q. one≢zero k (ap (λ (m : ℕ). nodeAt v m .kind) q ∙ free-kind v))
+
+  link-since : (i p : InodeNumber) (n : Bytes) → ByteList n → linkCheck C v i p n ≡ Fine → Leaves (link i p n)
+  unfolding effect linkCheck freeEntry namedBy naming named
+  link-since i p n bytes h =
+      let fine = passed _ _ h in
+      pass _ ENOENT _ (fine .1) λ h₂ k₂.
+      let dir = passed _ _ k₂ in
+      pass _ EPERM _ (dir .1) λ h₄ k₄.
+      pass _ ENOKEY _ k₄ λ h₅ k₅.
+      pass _ EPERM _ k₅ λ h₆ k₆.
+      pass _ EEXIST _ k₆ λ h₇ k₇.
+      pass _ ENOSPC _ k₇ λ h₈ k₈.
+      stored-since (v .inodes) (freeEntry v) p i n (search-room isVacant (v .entries) noEntry entrySlots (s .entry-slots) h₈) (fine .0) bytes refl (λ j u. refl)
+
+  rename-since : (e : EntryNumber) (p : InodeNumber) (n : Bytes) → ByteList n → renameCheck C v e p n ≡ Fine → Leaves (rename e p n)
+  unfolding effect renameCheck namedBy naming named
+  rename-since e p n bytes h =
+      let fine = passed _ _ h in
+      pass _ ENOENT _ (fine .1) λ h₂ k₂.
+      stored-since (v .inodes) (e .0) p (entryAt v e .inode) n (used-range (v .entries) (e .0) h₂) (fine .0) bytes refl (λ j u. refl)
+
+  -- ---- names and directories stay
+
+  setPolicy-since : (i : InodeNumber) (p x : Bytes) → setPolicyCheck v i p x ≡ Fine → Leaves (setPolicy i p x)
+  unfolding effect setPolicyCheck namedBy naming named
+  setPolicy-since i p x h =
+      pass _ ENOENT _ h λ h₁ k₁.
+      let read = passed (policyCheck p) _ k₁ in
+      pass _ EEXIST _ (read .1) λ h₃ k₃.
+      pass _ EPERM _ k₃ λ h₄ k₄.
+      pass _ ENOTDIR _ k₄ λ h₅ k₅.
+      pass _ ENOTEMPTY _ k₅ λ h₆ k₆.
+      by-cond (λ (w : Volume). (j : ℕ) → Used w j → Since C v w none j) (inodeAt v i .encrypted) _ _
+      (λ t j u. stayed refl u refl refl)
+      (λ t j u.
+      stayed refl u refl (getD-set-other (v .inodes) (i .0) (slotAt v j .parent .0) _ noInode (none-in v (s .entry-slots) i (and-known (ap not t) h₆) j u)))
+
+  exchange-since : (a b : EntryNumber) → exchangeCheck v a b ≡ Fine → Leaves (exchange a b)
+  unfolding effect exchangeCheck namedBy naming named
+  exchange-since a b h j u =
+      pass _ ENOENT _ h λ h₁ k₁.
+      pass _ ENOENT _ k₁ λ h₂ k₂.
+      let q = look v (sound-inv v s) (a .0) (b .0) h₁ h₂ j in
+      stayed refl (ap isVacant (sym q) ∙ u) (ap nameOf q) (ap (λ (x : Entry). inodeAt v (x .parent)) q)
+
+  remove-since : (e : EntryNumber) → removeCheck v e ≡ Fine → Leaves (remove e)
+  unfolding effect removeCheck withoutUnheld namedBy naming named
+  remove-since e h j u =
+      pass _ ENOENT _ h λ h₁ k₁.
+      pass _ ENOTEMPTY _ k₁ λ h₂ k₂.
+      let gone = entryAt v e .inode in
+      let q = left-same v (sound-inv v s) (e .0) h₁ h₂ j (left-other v (sound-inv v s) (e .0) h₁ h₂ j u) in
+      let used : Used v j = ap isVacant (sym q) ∙ u in
+      stayed refl used (ap nameOf q)
+      (by-cond (λ (is : List Inode). nodeIn is (getD (set (v .entries) (e .0) noEntry) j noEntry .parent .0) ≡ dirOf v j) (isHeld _ gone) _ _
+      (λ t. ap (λ (x : Entry). inodeAt v (x .parent)) q)
+      (λ t.
+      ap (λ (x : Entry). nodeIn (set (v .inodes) (gone .0) noInode) (x .parent .0)) q
+      ∙ getD-set-other (v .inodes) (gone .0) (slotAt v j .parent .0) noInode noInode (none-in v (s .entry-slots) gone h₂ j used)))
+
+  since : (r : Request) → Typed r → check C v r ≡ Fine → Leaves r
+  unfolding check effect namedBy naming named
+  since (addKey d k) t h = λ j u. stayed refl u refl refl
+  since (removeKey d) t h = λ j u. stayed refl u refl refl
+  since (setPolicy i p x) t h = setPolicy-since i p x h
+  since (getPolicy i) t h = λ j u. stayed refl u refl refl
+  since (create p kind n x) t h = create-since p kind n x (t .0) h
+  since (link i p n) t h = link-since i p n t h
+  since (rename e p n) t h = rename-since e p n t h
+  since (exchange a b) t h = exchange-since a b h
+  since (remove e) t h = remove-since e h
+  since (find p n) t h = λ j u. stayed refl u refl refl
+  since (show e b) t h = λ j u. stayed refl u refl refl
+  since (seal i n b) t h = λ j u. stayed refl u refl refl
+  since (unseal i n b) t h = λ j u. stayed refl u refl refl
+
+-- ---- a refusal leaves all as it was
+
+settled-since : (C : Cipher) (v : Volume) (r : Request) (o : Outcome) (k : Checked) → (k ≡ Fine → (j : ℕ) → Used (o .volume) j → Since C v (o .volume) (namedBy r (o .answer) j) j)
+    → (j : ℕ) → Used ((settle v (lent r) k o) .volume) j → Since C v ((settle v (lent r) k o) .volume) (namedBy r ((settle v (lent r) k o) .answer) j) j
+unfolding settle namedBy
+settled-since C v r o Fine f = f refl
+settled-since C v r o (Refused e) f = λ j u. stayed refl u refl refl
+
+pub step-since : (C : Cipher) → Lawful C → (v : Volume) → Sound v → (r : Request) → Typed r
+    → (j : ℕ) → Used ((step C v r) .volume) j → Since C v ((step C v r) .volume) (namedBy r ((step C v r) .answer) j) j
+unfolding step
+step-since C law v s r t = settled-since C v r (effect C v r) (check C v r) (since C law v s r t)
