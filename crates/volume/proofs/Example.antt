@@ -43,16 +43,16 @@ inode n = record { 0 = n }
 unfoldable pub entry : ℕ → EntryNumber
 entry n = record { 0 = n }
 
-seen : ℕ → ℕ → ℕ → Form → ℕ → Answer
+unfoldable pub seen : ℕ → ℕ → ℕ → Form → ℕ → Answer
 seen p i kind form n = shown (record { parent = inode p; inode = inode i; kind = kind; form = form; len = n })
 
 unfoldable pub nonce : ℕ → Bytes
 nonce n = n ∷ zeros 15
 
-descriptor : Bytes
+unfoldable pub descriptor : Bytes
 descriptor = 7 ∷ zeros 7
 
-policy : Bytes
+unfoldable pub policy : Bytes
 policy = 0 ∷ 1 ∷ 4 ∷ 0 ∷ descriptor
 
 requests : List Request

@@ -1,10 +1,10 @@
 -- Names and keys in every run: each entry in use has the name that it was given, stored under the key that its directory had then, since a request gives an entry its
 -- name or leaves it. So what is read with that key is what was given, and EUCLEAN comes of another key. Assumes nothing.
-use Prim.Native.Nat.{ℕ, _≤_}
+use Prim.Native.Nat.{ℕ}
 use native.Mathlib.Omega.{arith}
 use mathlib.Core.Path.{_≡_, refl, sym, _∙_, ap, ap₂, subst}
 use mathlib.Core.Logic.{_≢_}
-use mathlib.Core.Bool.{Bool, true, false, cond, not, _&&_, true≢false, false≢true}
+use mathlib.Core.Bool.{Bool, true, false, cond, not, _&&_, true≢false}
 use mathlib.Core.List.{List, [], _∷_, _++_, List·Memᴰ·head, List·Memᴰ·tail}
 use mathlib.Core.Option.{Option, some, none}
 use lib.ListN.{length, take}
@@ -22,7 +22,7 @@ use Rattle.fscrypt.specs.Cipher.{Cipher, Lawful, fscrypt}
 use Rattle.fscrypt.specs.Names.{nameCheck, encrypted}
 use Rattle.fscrypt.proofs.Lawfulness.{fscrypt-lawful}
 use Rattle.volume.specs.Volume.{nameOf, fresh}
-use Rattle.volume.specs.Request.{Request, show, Answer, refused, shown, Outcome, outcome}
+use Rattle.volume.specs.Request.{Request, show, refused, shown, Outcome, outcome}
 use Rattle.volume.specs.Lookup.{masterKey, descriptorOf, keyPresent, keyNeeded, entryAt, isVacant}
 use Rattle.volume.specs.Checks.{derivedKey, nameKey, stored, isUnreadable, formIn, showCheck}
 use Rattle.volume.specs.Step.{lent, check, effect, settle, step}
@@ -30,12 +30,11 @@ use Rattle.volume.specs.Run.{Moment, momentOf, runFrom, run}
 use Rattle.volume.specs.Sound.{Sound, Used, slotAt, dirOf}
 use Rattle.volume.specs.SealedOpens.{Bytewise}
 use Rattle.volume.specs.TwoRuns.{Typed, AllTyped, Names, later, after, namesFrom, given}
-use Rattle.volume.specs.KeyedNames.{Keys, keyFor, renewed, keysAfter, keysFrom, namedUnder, HasKey, WrongKey, ShownByKey, KeyedNames, EveryRunKeyed}
+use Rattle.volume.specs.KeyedNames.{Keys, keyFor, renewed, keysAfter, keysFrom, namedUnder, HasKey, WrongKey, ShownByKey, EveryRunKeyed}
 use Rattle.volume.specs.declared.EntryNumber.{EntryNumber}
 use Rattle.volume.specs.declared.Inode.{Inode}
 use Rattle.volume.specs.declared.Volume.{Volume}
 use Rattle.volume.specs.declared.ShownEntry.{ShownEntry}
-use Rattle.volume.specs.declared.Form.{Form}
 use Rattle.volume.specs.declared.Form.the-variants.{Plain, Decrypted, Encoded}
 use Rattle.volume.proofs.SoundInvariant.{pass}
 use Rattle.volume.proofs.Soundness.{fresh-sound, fresh-unused, sound-kept}
@@ -151,7 +150,8 @@ module _ (C : Cipher) where
           let x = all (e .0) h₂ in
           let form : formIn v dir ≡ s .form = form-of (ap (λ (o : Outcome). o .answer) (sym eff) ∙ h) in
           let held : keyNeeded v dir ≡ false = with-key (dir .encrypted) (keyPresent v dir) (λ q. f (sym form ∙ q)) in
-          let r = shows C law v w dir (w .nonces (slotAt v (e .0) .parent .0)) (x .name) (x .bytes) (x .is-plain) held e h₂ refl (is-stored-now h₂ same) b (ltb-false (length b) 255 h₁) in
+          let nonce = w .nonces (slotAt v (e .0) .parent .0) in
+          let r = shows C law v w dir nonce (x .name) (x .bytes) (x .is-plain) held e h₂ refl (is-stored-now h₂ same) b (ltb-false (length b) 255 h₁) in
           x .is-given ∙ ap some (sym (r .3) ∙ ap (λ (n : ℕ). take n ((step C v (show e b)) .buffer)) (len-of (sym (r .1) ∙ h)))
         where
           with-key : (a b : Bool) → cond a (cond b Decrypted Encoded) Plain ≢ Encoded → (a && not b) ≡ false
@@ -201,7 +201,8 @@ module _ (C : Cipher) where
           run-right rs (λ q m. t q (List·Memᴰ·tail m)) _ _ ((step C v r) .volume) (sound-kept C law v s r tr) (bytewise-kept C v w r tr) (named-kept g k v s all r tr),
         )
 
-    right-at : (past : List Moment) (m : Moment) (next : List Moment) (g : Names) (k : Keys) → RunRight g k (past ++ (m ∷ next)) → ShownByKey (namesFrom g past) (keysFrom k past) m
+    right-at : (past : List Moment) (m : Moment) (next : List Moment) (g : Names) (k : Keys) → RunRight g k (past ++ (m ∷ next))
+        → ShownByKey (namesFrom g past) (keysFrom k past) m
     unfolding namesFrom keysFrom
     right-at [] m next g k h = h .0
     right-at (p ∷ past) m next g k h = right-at past m next (after g (p .request) (p .answer)) (keysAfter k p) (h .1)

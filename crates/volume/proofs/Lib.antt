@@ -22,6 +22,7 @@ pub mod ShownApart
 -- names and keys in every run
 mod NamesSince
 pub mod KeyedNames
+mod KeyedExample
 -- the two runs
 mod Twin
 mod TwinLookup

@@ -2,8 +2,7 @@
 -- left the stored name and the entry's directory as they were. Assumes nothing.
 use Prim.Native.Nat.{ℕ, _<_}
 use mathlib.Core.Path.{_≡_, refl, sym, _∙_, ap, subst}
-use mathlib.Core.Logic.{_≢_}
-use mathlib.Core.Bool.{true, false, not}
+use mathlib.Core.Bool.{not}
 use mathlib.Core.List.{List}
 use mathlib.Core.Option.{Option, some, none}
 use lib.ListN.{length, getD, set}
@@ -176,7 +175,8 @@ module _ (C : Cipher) (law : Lawful C) (v : Volume) (s : Sound v) where
 
 -- ---- a refusal leaves all as it was
 
-settled-since : (C : Cipher) (v : Volume) (r : Request) (o : Outcome) (k : Checked) → (k ≡ Fine → (j : ℕ) → Used (o .volume) j → Since C v (o .volume) (namedBy r (o .answer) j) j)
+settled-since : (C : Cipher) (v : Volume) (r : Request) (o : Outcome) (k : Checked)
+    → (k ≡ Fine → (j : ℕ) → Used (o .volume) j → Since C v (o .volume) (namedBy r (o .answer) j) j)
     → (j : ℕ) → Used ((settle v (lent r) k o) .volume) j → Since C v ((settle v (lent r) k o) .volume) (namedBy r ((settle v (lent r) k o) .answer) j) j
 unfolding settle namedBy
 settled-since C v r o Fine f = f refl
