@@ -6,6 +6,7 @@ ghost use Rattle.fscrypt.specs.Cipher.{fscrypt};
 ghost use Rattle.volume.specs.PolicyClause.{PolicyClause};
 ghost use Rattle.volume.specs.SealedOpens.{SealedOpens};
 ghost use Rattle.volume.specs.TwoRuns.{AllTyped, thirteen, TwoRuns};
+ghost use Rattle.volume.specs.KeyedNames.{EveryRunKeyed};
 ghost use Rattle.requests.specs.Claims.{AlwaysSound, PromiseKept};
 
 // A fresh volume is sound and its bytes are bytes, and so is the volume after every request of every list.
@@ -22,6 +23,12 @@ pub fn policies_hold()
 // requests made.
 pub fn sealed_blocks_open()
     ensures { λ _. ⌜ SealedOpens fscrypt ⌝ }
+{}
+
+// In every list, with keys added and removed at will, show says EUCLEAN only of a wrong key, and with the key under which it was stored a name is read as it was
+// given.
+pub fn names_read_with_their_key()
+    ensures { λ _. ⌜ EveryRunKeyed fscrypt ⌝ }
 {}
 
 // Names shown without the key have at most 255 bytes, no NUL and no `/`, and are distinct in a directory.
