@@ -1,6 +1,6 @@
 -- Two keys under one descriptor, computed from the definitions: a name is garbled or EUCLEAN under the other key, and shown as it was given once its own is back. So
 -- neither what is claimed of the name's own key nor what is claimed of a wrong one is claimed of nothing. Assumes nothing.
-use Prim.Native.Nat.{ℕ, _+_, _-_, _%_}
+use Prim.Native.Nat.{ℕ}
 use mathlib.Core.Path.{_≡_, refl}
 use mathlib.Core.List.{List, [], _∷_, _++_, map}
 use mathlib.Core.Option.{Option, some}

@@ -28,7 +28,7 @@ use Rattle.volume.specs.Checks.{derivedKey, nameKey, stored, isUnreadabl
 use Rattle.volume.specs.Step.{lent, check, effect, settle, step}
 use Rattle.volume.specs.Run.{Moment, momentOf, runFrom, run}
 use Rattle.volume.specs.Sound.{Sound, Used, slotAt, dirOf}
-use Rattle.volume.specs.SealedOpens.{Bytewise}
+use Rattle.volume.specs.SealedOpens.{Bytewise, ShowsAs}
 use Rattle.volume.specs.TwoRuns.{Typed, AllTyped, Names, later, after, namesFrom, given}
 use Rattle.volume.specs.KeyedNames.{Keys, keyFor, renewed, keysAfter, keysFrom, namedUnder, HasKey, WrongKey, ShownByKey, EveryRunKeyed}
 use Rattle.volume.specs.declared.EntryNumber.{EntryNumber}
@@ -139,6 +139,11 @@ module _ (C : Cipher) where
           tests false false true s b′ h = (refl, refl)
           tests false false false s b′ h = let z : _≡_ {A = ℕ} 0 1 = cc in absurd (omega arith)
 
+      shows-given : HasKey v (e .0) (k (e .0)) → keyNeeded v dir ≡ false → (u : Used v (e .0)) → ShowsAs C v e (all (e .0) u .name)
+      shows-given same held u =
+          let x = all (e .0) u in
+          shows C law v w dir (w .nonces (slotAt v (e .0) .parent .0)) (x .name) (x .bytes) (x .is-plain) held e u refl (is-stored-now u same)
+
       named-show : HasKey v (e .0) (k (e .0)) → (b : Bytes) (s : ShownEntry) → (step C v (show e b)) .answer ≡ shown s → s .form ≢ Encoded
           → g (e .0) ≡ some (take (s .len) ((step C v (show e b)) .buffer))
       unfolding check effect showCheck formIn keyNeeded
@@ -147,12 +152,10 @@ module _ (C : Cipher) where
           let eff = was-done C v (show e b) (shown s) na h in
           pass _ ERANGE _ (was-fine C v (show e b) (shown s) na h) λ h₁ k₁.
           pass _ ENOENT _ k₁ λ h₂ k₂.
-          let x = all (e .0) h₂ in
           let form : formIn v dir ≡ s .form = form-of (ap (λ (o : Outcome). o .answer) (sym eff) ∙ h) in
           let held : keyNeeded v dir ≡ false = with-key (dir .encrypted) (keyPresent v dir) (λ q. f (sym form ∙ q)) in
-          let nonce = w .nonces (slotAt v (e .0) .parent .0) in
-          let r = shows C law v w dir nonce (x .name) (x .bytes) (x .is-plain) held e h₂ refl (is-stored-now h₂ same) b (ltb-false (length b) 255 h₁) in
-          x .is-given ∙ ap some (sym (r .3) ∙ ap (λ (n : ℕ). take n ((step C v (show e b)) .buffer)) (len-of (sym (r .1) ∙ h)))
+          let r = shows-given same held h₂ b (ltb-false (length b) 255 h₁) in
+          all (e .0) h₂ .is-given ∙ ap some (sym (r .3) ∙ ap (λ (n : ℕ). take n ((step C v (show e b)) .buffer)) (len-of (sym (r .1) ∙ h)))
         where
           with-key : (a b : Bool) → cond a (cond b Decrypted Encoded) Plain ≢ Encoded → (a && not b) ≡ false
           with-key true true f = refl
@@ -177,14 +180,23 @@ module _ (C : Cipher) where
     unfolding momentOf
     moment-right g k v w all r =
         record {
-          unclean = λ e b q.
-              subst (λ (r : Request). (step C v r) .answer ≡ refused (number EUCLEAN) → WrongKey ((step C v r) .volume) (e .0) (k (e .0))) (sym q)
-              (λ h. subst (λ (x : Volume). WrongKey x (e .0) (k (e .0))) (sym (shown-volume v e b)) (unclean-show g k v w all e b h));
-          named = λ e b q.
-              subst (λ (r : Request). HasKey ((step C v r) .volume) (e .0) (k (e .0)) → (s : ShownEntry) → (step C v r) .answer ≡ shown s → s .form ≢ Encoded
-              → g (e .0) ≡ some (take (s .len) ((step C v r) .buffer))) (sym q)
-              (λ same. named-show g k v w all e (subst (λ (x : Volume). HasKey x (e .0) (k (e .0))) (shown-volume v e b) same) b);
+          unclean = λ e b q h. subst (λ (x : Volume). WrongKey x (e .0) (k (e .0))) (sym (same e b q)) (unclean-show g k v w all e b (sym (answer q) ∙ h));
+          answered = λ e b q has held u room.
+              let h = subst (λ (x : Volume). keyNeeded x (dirOf x (e .0)) ≡ false) (same e b q) held in
+              let a = shows-given g k v w all e (has-key e b q has) h (subst (λ (x : Volume). Used x (e .0)) (same e b q) u) b room in
+              (a .0, answer q ∙ a .1, a .2);
+          named = λ e b q has s h f.
+              named-show g k v w all e (has-key e b q has) b s (sym (answer q) ∙ h) f ∙ ap (λ (r : Request). some (take (s .len) ((step C v r) .buffer))) (sym q);
         }
+      where
+        answer : {r′ : Request} → r ≡ r′ → (step C v r) .answer ≡ (step C v r′) .answer
+        answer q = ap (λ (r : Request). (step C v r) .answer) q
+
+        same : (e : EntryNumber) (b : Bytes) → r ≡ show e b → (step C v r) .volume ≡ v
+        same e b q = ap (λ (r : Request). (step C v r) .volume) q ∙ shown-volume v e b
+
+        has-key : (e : EntryNumber) (b : Bytes) → r ≡ show e b → HasKey ((step C v r) .volume) (e .0) (k (e .0)) → HasKey v (e .0) (k (e .0))
+        has-key e b q = subst (λ (x : Volume). HasKey x (e .0) (k (e .0))) (same e b q)
 
     -- ---- runs
 

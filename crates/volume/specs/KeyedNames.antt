@@ -1,20 +1,20 @@
 -- Names and keys in every run, with keys added, removed and replaced at will. Document 01 of EUCLEAN: "This can come only of a wrong key." Demand 2: "With the same
 -- key, what was encrypted decrypts to what it was." The key in question is the one under which the entry's present name was stored. Assumes nothing.
-use Prim.Native.Nat.{ℕ}
+use Prim.Native.Nat.{ℕ, _≤_}
 use mathlib.Core.Path.{_≡_}
 use mathlib.Core.Logic.{_≢_}
-use mathlib.Core.Bool.{true}
+use mathlib.Core.Bool.{true, false}
 use mathlib.Core.List.{List, [], _∷_, _++_}
 use mathlib.Core.Option.{Option, some, none}
-use lib.ListN.{take}
+use lib.ListN.{length, take}
 use Rattle.lists.specs.Bytes.{Bytes}
 use Rattle.errno.specs.Refusals.{number}
 use Rattle.errno.specs.declared.Errno.the-variants.{EUCLEAN}
 use Rattle.fscrypt.specs.Cipher.{Cipher}
 use Rattle.volume.specs.Request.{Request, show, refused, shown}
-use Rattle.volume.specs.Lookup.{masterKey, descriptorOf, keyPresent}
+use Rattle.volume.specs.Lookup.{masterKey, descriptorOf, keyPresent, keyNeeded}
 use Rattle.volume.specs.Run.{Moment, run}
-use Rattle.volume.specs.Sound.{dirOf}
+use Rattle.volume.specs.Sound.{Used, dirOf}
 use Rattle.volume.specs.TwoRuns.{AllTyped, Names, namedBy, given}
 use Rattle.volume.specs.declared.EntryNumber.{EntryNumber}
 use Rattle.volume.specs.declared.Volume.{Volume}
@@ -56,12 +56,14 @@ pub record WrongKey (v : Volume) (e : ℕ) (key : Bytes) : Type 0 where
   pub present : keyPresent v (dirOf v e) ≡ true
   pub another : keyFor v e ≢ key
 
--- what a show answers, where the entries were given these names under these keys: EUCLEAN comes only of a wrong key, and with the key that it was named under an
--- entry whose name is shown plain or decrypted is shown as it was named
+-- what a show answers, where the entries were given these names under these keys: EUCLEAN comes only of a wrong key; with the key that it was named under, an entry
+-- in use is shown plain or decrypted, if the buffer has room; and a name so shown is the given one
 pub record ShownByKey (g : Names) (k : Keys) (m : Moment) : Type 0 where
   pub unclean : (e : EntryNumber) (b : Bytes) → m .request ≡ show e b → m .answer ≡ refused (number EUCLEAN) → WrongKey (m .volume) (e .0) (k (e .0))
-  pub named : (e : EntryNumber) (b : Bytes) → m .request ≡ show e b → HasKey (m .volume) (e .0) (k (e .0)) → (s : ShownEntry) → m .answer ≡ shown s → s .form ≢ Encoded
-      → g (e .0) ≡ some (take (s .len) (m .buffer))
+  pub answered : (e : EntryNumber) (b : Bytes) → m .request ≡ show e b → HasKey (m .volume) (e .0) (k (e .0)) → keyNeeded (m .volume) (dirOf (m .volume) (e .0)) ≡ false
+      → Used (m .volume) (e .0) → 255 ≤ length b → (s : ShownEntry) × (m .answer ≡ shown s) × (s .form ≢ Encoded)
+  pub named : (e : EntryNumber) (b : Bytes) → m .request ≡ show e b → HasKey (m .volume) (e .0) (k (e .0))
+      → (s : ShownEntry) → m .answer ≡ shown s → s .form ≢ Encoded → g (e .0) ≡ some (take (s .len) (m .buffer))
 
 -- at every moment, by the requests before it
 abbrev pub KeyedNames : List Moment → Type 0
