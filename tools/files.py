@@ -8,6 +8,7 @@ Needs Debian's python3 alone, and runs from any directory.
 """
 import re
 import sys
+import textwrap
 from pathlib import Path
 
 ROOT = Path(__file__).resolve().parent.parent
@@ -15,7 +16,7 @@ PAGE = ROOT / "docs" / "FILES.md"
 
 
 def subject(path):
-    """The first sentence of the comment that a file begins with."""
+    """The first sentence of the comment that a file begins with, up to a full stop that is not within a quotation."""
     words = []
     for line in path.read_text().splitlines():
         found = re.match(r"(?:--|//)\s?(.*)", line)
@@ -23,7 +24,15 @@ def subject(path):
             break
         words.append(found.group(1).strip())
     text = " ".join(words).split(" Assumes nothing")[0]
-    return re.split(r"(?<=[.:;])\s", text)[0].rstrip(":;")
+    for stop in re.finditer(r'[^.\s]\."?(?=\s|$)', text):
+        if text[:stop.end()].count('"') % 2 == 0:
+            return text[:stop.end()]
+    return text
+
+
+def item(path, text):
+    """A line of the list, or several where it is long."""
+    return textwrap.fill(f"- `{path}`: {text}", 160, subsequent_indent="  ", break_long_words=False, break_on_hyphens=False)
 
 
 def crates():
@@ -45,7 +54,7 @@ def page():
         root = ROOT / "crates" / name
         for path in sorted(root.glob("src/*.rt")) + sorted(root.glob("specs/*.antt")) + sorted(root.glob("proofs/*.antt")):
             if path.name != "Lib.antt":
-                out.append(f"- `{path.relative_to(root)}`: {subject(path)}")
+                out.append(item(path.relative_to(root), subject(path)))
         single = len(list(root.glob("proofs/**/Proof.antt")))
         edits = len(list(root.glob("must-fail/*.edit")))
         out.append(f"- proofs of single functions: {single}; must-fail edits: {edits}")

@@ -1,5 +1,5 @@
-// Test vectors, run through the public functions of ciphers, policy and fscrypt. Standard input has one request to a line, and standard output gets one
-// line for each.
+// Test vectors, run through the public functions of ciphers, policy and fscrypt, and of aes and field for the key schedules. Standard input has one
+// request to a line, and standard output gets one line for each.
 //
 //     key-expansion KEY               the key schedule of a key of 16, 20, 24, 28 or 32 bytes
 //     ecb-encrypt KEY TEXT
