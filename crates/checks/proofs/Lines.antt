@@ -22,7 +22,7 @@ use Rattle.fscrypt.specs.declared.NameRead.{NameRead}
 use Rattle.fscrypt.proofs.Padding.{name-fits}
 use Rattle.volume.specs.Volume.{nameOf}
 use Rattle.volume.specs.Lookup.{inodeAt, entryAt}
-use Rattle.volume.specs.Checks.{isUnreadable}
+use Rattle.volume.specs.DirectoryNames.{isUnreadable}
 use Rattle.volume.specs.declared.EntryNumber.{EntryNumber}
 use Rattle.volume.specs.declared.Inode.{Inode}
 use Rattle.volume.specs.declared.Entry.{Entry}

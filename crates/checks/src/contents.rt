@@ -44,7 +44,7 @@ pub fn block_check(v: Volume, i: InodeNumber, n: usize) -> Checked
     if !node.encrypted {
         return Checked::Refused(Errno::ENODATA);
     }
-    if shared::is_key_needed(v, i) {
+    if shared::lacks_key(v, i) {
         return Checked::Refused(Errno::ENOKEY);
     }
     Checked::Fine

@@ -17,8 +17,7 @@ ghost use Prim.Native.Nat.{_≤_};
 ghost use lib.ListN.{length};
 ghost use Rattle.fscrypt.specs.Cipher.{fscrypt};
 ghost use Rattle.volume.specs.Lookup.{inodeAt, isBorne};
-ghost use Rattle.volume.specs.Checks.{isBadKind, isNonceNeeded, createCheck, linkCheck, renameCheck, exchangeCheck, removeCheck, findCheck};
-ghost use Rattle.checks.specs.Parts.{roomCheck, linkedCheck, moveCheck, swapCheck};
+ghost use Rattle.volume.specs.Checks.{isBadKind, isNonceNeeded, roomCheck, createCheck, linkedCheck, linkCheck, moveCheck, renameCheck, swapCheck, exchangeCheck, removeCheck, findCheck};
 
 fn is_bad_kind(kind: u64) -> bool
     ensures { λ r. ⌜ r ≡ isBadKind kind ⌝ }
@@ -74,7 +73,7 @@ pub fn create_check(v: Volume, p: InodeNumber, kind: u64, name: &[u8], x: [u8; 1
         }
         Checked::Fine => {}
     }
-    if shared::is_key_needed(v, p) {
+    if shared::lacks_key(v, p) {
         return Checked::Refused(Errno::ENOKEY);
     }
     if names::entry_of(v, p, name) < ENTRY_SLOTS {
@@ -92,7 +91,7 @@ fn linked_check(v: Volume, i: InodeNumber, p: InodeNumber, name: &[u8]) -> Check
     if node.kind == 1 {
         return Checked::Refused(Errno::EPERM);
     }
-    if shared::is_key_needed(v, p) {
+    if shared::lacks_key(v, p) {
         return Checked::Refused(Errno::ENOKEY);
     }
     if shared::is_refused_in(v, p, i) {
@@ -146,10 +145,10 @@ fn move_check(
         }
         Checked::Fine => {}
     }
-    if shared::is_key_needed(v, from) {
+    if shared::lacks_key(v, from) {
         return Checked::Refused(Errno::ENOKEY);
     }
-    if shared::is_key_needed(v, p) {
+    if shared::lacks_key(v, p) {
         return Checked::Refused(Errno::ENOKEY);
     }
     if shared::is_refused_in(v, p, moved) {
@@ -186,10 +185,10 @@ pub fn rename_check(v: Volume, n: EntryNumber, p: InodeNumber, name: &[u8]) -> C
 fn swap_check(v: Volume, p: InodeNumber, i: InodeNumber, q: InodeNumber, j: InodeNumber) -> Checked
     ensures { λ r. ⌜ r ≡ swapCheck v p i q j ⌝ }
 {
-    if shared::is_key_needed(v, p) {
+    if shared::lacks_key(v, p) {
         return Checked::Refused(Errno::ENOKEY);
     }
-    if shared::is_key_needed(v, q) {
+    if shared::lacks_key(v, q) {
         return Checked::Refused(Errno::ENOKEY);
     }
     if shared::is_refused_in(v, p, j) {
@@ -254,7 +253,7 @@ pub fn find_check(v: Volume, p: InodeNumber, name: &[u8]) -> Checked
         }
         Checked::Fine => {}
     }
-    if shared::is_key_needed(v, p) {
+    if shared::lacks_key(v, p) {
         return Checked::Refused(Errno::ENOKEY);
     }
     if ENTRY_SLOTS <= names::entry_of(v, p, name) {

@@ -10,8 +10,7 @@ use volume::InodeNumber;
 use volume::KEY_SLOTS;
 use volume::Volume;
 ghost use mathlib.Core.Path.{_≡_};
-ghost use Rattle.volume.specs.Checks.{isBadKeyLength, addKeyCheck, removeKeyCheck, setPolicyCheck, getPolicyCheck};
-ghost use Rattle.checks.specs.Parts.{firstPolicyCheck, isOtherPolicy};
+ghost use Rattle.volume.specs.Checks.{isBadKeyLength, addKeyCheck, removeKeyCheck, isOtherPolicy, firstPolicyCheck, setPolicyCheck, getPolicyCheck};
 
 fn is_bad_key_length(n: usize) -> bool
     ensures { λ r. ⌜ r ≡ isBadKeyLength n ⌝ }

@@ -6,15 +6,15 @@ use volume::Inode;
 use volume::InodeNumber;
 use volume::Volume;
 ghost use mathlib.Core.Path.{_≡_};
-ghost use Rattle.volume.specs.Lookup.{inodeAt, keyNeeded};
+ghost use Rattle.volume.specs.Lookup.{inodeAt, lacksKey};
 ghost use Rattle.volume.specs.Checks.{directoryCheck, isPolicyRefused};
 
 // Whether the key of this inode is needed and absent.
-pub fn is_key_needed(v: Volume, p: InodeNumber) -> bool
-    ensures { λ r. ⌜ r ≡ keyNeeded v (inodeAt v p) ⌝ }
+pub fn lacks_key(v: Volume, p: InodeNumber) -> bool
+    ensures { λ r. ⌜ r ≡ lacksKey v (inodeAt v p) ⌝ }
 {
     let node = inodes::inode_at(v, p);
-    lookup::keyring::key_needed(v, node)
+    lookup::keyring::lacks_key(v, node)
 }
 
 // Whether an encrypted directory would gain an inode that lacks its policy.

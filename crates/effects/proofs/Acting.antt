@@ -17,7 +17,8 @@ use Rattle.fscrypt.specs.declared.Name.{Name}
 use Rattle.volume.specs.Volume.{noKey, noInode, noEntry, encryptedInode, keySlot, entrySlot}
 use Rattle.volume.specs.Request.{outcome, done, created, at, policyIs, addKey, removeKey, setPolicy, getPolicy, create, link, rename, exchange, remove, find}
 use Rattle.volume.specs.Lookup.{keySlotOf, freeKeySlot, inodeAt, freeInode, entryAt, freeEntry, entryNamed, isHeld}
-use Rattle.volume.specs.Checks.{isNonceNeeded, stored}
+use Rattle.volume.specs.DirectoryNames.{stored}
+use Rattle.volume.specs.Checks.{isNonceNeeded}
 use Rattle.volume.specs.Step.{withKeys, withInodes, withEntries, withInode, childOf, withoutUnheld, effect}
 use Rattle.volume.specs.declared.InodeNumber.{InodeNumber}
 use Rattle.volume.specs.declared.EntryNumber.{EntryNumber}

@@ -16,8 +16,8 @@ use Rattle.fscrypt.proofs.Shape.{Sized}
 use Rattle.names.specs.Shown.{shownRead}
 use Rattle.volume.specs.Volume.{nameOf}
 use Rattle.volume.specs.Request.{outcome, done, shown, show, seal, unseal}
-use Rattle.volume.specs.Lookup.{inodeAt, entryAt, keyPresent, keyNeeded}
-use Rattle.volume.specs.Checks.{derivedKey, shownName, formIn}
+use Rattle.volume.specs.Lookup.{inodeAt, entryAt, keyPresent, lacksKey}
+use Rattle.volume.specs.DirectoryNames.{derivedKey, shownName, formIn}
 use Rattle.volume.specs.Step.{effect}
 use Rattle.volume.specs.declared.InodeNumber.{InodeNumber}
 use Rattle.volume.specs.declared.EntryNumber.{EntryNumber}
@@ -79,6 +79,6 @@ module _ (C : Cipher) (v : Volume) where
     open-acts h = ap (λ (x : Bytes). outcome done x v) (h ∙ ap (λ (k : Bytes). C .unseal k number b) under)
 
 -- the inode read is encrypted and its key is not needed: it is there
-pub key-there : (v : Volume) (i : InodeNumber) (node : Inode) → node ≡ inodeAt v i → keyNeeded v (inodeAt v i) ≡ false → inodeAt v i .encrypted ≡ true → keyPresent v node ≡ true
-unfolding keyNeeded
+pub key-there : (v : Volume) (i : InodeNumber) (node : Inode) → node ≡ inodeAt v i → lacksKey v (inodeAt v i) ≡ false → inodeAt v i .encrypted ≡ true → keyPresent v node ≡ true
+unfolding lacksKey
 key-there v i node h k e = ap (keyPresent v) h ∙ not-false (keyPresent v (inodeAt v i)) (and-known e k)

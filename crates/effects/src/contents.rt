@@ -20,8 +20,8 @@ ghost use Rattle.lists.specs.Bytes.{laidOver};
 ghost use Rattle.fscrypt.specs.Cipher.{fscrypt};
 ghost use Rattle.fscrypt.specs.Names.{nameBytes};
 ghost use Rattle.volume.specs.Request.{outcome, replied, showAnswered, show, seal, unseal};
-ghost use Rattle.volume.specs.Lookup.{inodeAt, keyNeeded};
-ghost use Rattle.volume.specs.Checks.{formIn};
+ghost use Rattle.volume.specs.Lookup.{inodeAt, lacksKey};
+ghost use Rattle.volume.specs.DirectoryNames.{formIn};
 ghost use Rattle.volume.specs.Step.{effect};
 
 // How names of this directory are shown.
@@ -72,7 +72,7 @@ pub fn show(v: Volume, n: EntryNumber, buf: &mut [u8]) -> ShowAnswer
 
 // A block of a file's contents, in place.
 pub fn seal(v: Volume, i: InodeNumber, number: u64, block: &mut [u8])
-    requires { ⌜ keyNeeded v (inodeAt v i) ≡ false ⌝ }
+    requires { ⌜ lacksKey v (inodeAt v i) ≡ false ⌝ }
     requires { ⌜ inodeAt v i .encrypted ≡ true ⌝ }
     ensures { λ _. ⌜ outcome (replied Reply.Done) (now (block .exit)) v ≡ effect fscrypt v (seal i number (now (block .entry))) ⌝ }
 {
@@ -82,7 +82,7 @@ pub fn seal(v: Volume, i: InodeNumber, number: u64, block: &mut [u8])
 }
 
 pub fn open(v: Volume, i: InodeNumber, number: u64, block: &mut [u8])
-    requires { ⌜ keyNeeded v (inodeAt v i) ≡ false ⌝ }
+    requires { ⌜ lacksKey v (inodeAt v i) ≡ false ⌝ }
     requires { ⌜ inodeAt v i .encrypted ≡ true ⌝ }
     ensures { λ _. ⌜ outcome (replied Reply.Done) (now (block .exit)) v ≡ effect fscrypt v (unseal i number (now (block .entry))) ⌝ }
 {

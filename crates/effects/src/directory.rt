@@ -24,8 +24,8 @@ ghost use lib.ListN.{length, set};
 ghost use Rattle.fscrypt.specs.Cipher.{fscrypt};
 ghost use Rattle.volume.specs.Volume.{inodeSlots, entrySlots, entrySlot};
 ghost use Rattle.volume.specs.Request.{outcome, replied, createAnswered, entryAnswered, create, link, rename, exchange, remove, find};
-ghost use Rattle.volume.specs.Lookup.{inodeAt, keyNeeded, freeInode, freeEntry};
-ghost use Rattle.volume.specs.Checks.{stored};
+ghost use Rattle.volume.specs.Lookup.{inodeAt, lacksKey, freeInode, freeEntry};
+ghost use Rattle.volume.specs.DirectoryNames.{stored};
 ghost use Rattle.volume.specs.Step.{childOf, withInode, withEntries, withoutUnheld, effect};
 
 // A child of this directory: it inherits the policy, unless it is special.
@@ -58,7 +58,7 @@ fn new_entry(p: InodeNumber, i: InodeNumber, n: Name) -> Entry
 // An entry of this directory with this name, as the directory stores it.
 fn stored_entry(v: Volume, p: InodeNumber, i: InodeNumber, name: &[u8]) -> Entry
     requires { ⌜ length (now name) ≤ 255 ⌝ }
-    requires { ⌜ keyNeeded v (inodeAt v p) ≡ false ⌝ }
+    requires { ⌜ lacksKey v (inodeAt v p) ≡ false ⌝ }
     ensures { λ r. ⌜ r ≡ entrySlot p i (stored fscrypt v (inodeAt v p) (now (name .entry))) ⌝ }
 {
     let dir = inodes::inode_at(v, p);
@@ -81,7 +81,7 @@ fn with_entry(v: Volume, n: EntryNumber, e: Entry) -> Volume
 
 pub fn create(v: Volume, p: InodeNumber, kind: u64, name: &[u8], x: [u8; 16]) -> CreateOutcome
     requires { ⌜ length (now name) ≤ 255 ⌝ }
-    requires { ⌜ keyNeeded v (inodeAt v p) ≡ false ⌝ }
+    requires { ⌜ lacksKey v (inodeAt v p) ≡ false ⌝ }
     requires { ⌜ kind ≤ 4 ⌝ }
     requires { ⌜ freeInode v < inodeSlots ⌝ }
     requires { ⌜ freeEntry v < entrySlots ⌝ }
@@ -103,7 +103,7 @@ pub fn create(v: Volume, p: InodeNumber, kind: u64, name: &[u8], x: [u8; 16]) ->
 
 pub fn link(v: Volume, i: InodeNumber, p: InodeNumber, name: &[u8]) -> LinkOutcome
     requires { ⌜ length (now name) ≤ 255 ⌝ }
-    requires { ⌜ keyNeeded v (inodeAt v p) ≡ false ⌝ }
+    requires { ⌜ lacksKey v (inodeAt v p) ≡ false ⌝ }
     requires { ⌜ freeEntry v < entrySlots ⌝ }
     ensures { λ r. ⌜ outcome (entryAnswered (r .answer)) [] (r .volume) ≡ effect fscrypt v (link i p (now (name .entry))) ⌝ }
 {
@@ -119,7 +119,7 @@ pub fn link(v: Volume, i: InodeNumber, p: InodeNumber, name: &[u8]) -> LinkOutco
 
 pub fn rename(v: Volume, n: EntryNumber, p: InodeNumber, name: &[u8]) -> Changed
     requires { ⌜ length (now name) ≤ 255 ⌝ }
-    requires { ⌜ keyNeeded v (inodeAt v p) ≡ false ⌝ }
+    requires { ⌜ lacksKey v (inodeAt v p) ≡ false ⌝ }
     ensures { λ r. ⌜ outcome (replied (r .answer)) [] (r .volume) ≡ effect fscrypt v (rename n p (now (name .entry))) ⌝ }
 {
     let old = entries::entry_at(v, n);
@@ -145,7 +145,7 @@ fn with_inode(e: Entry, i: InodeNumber) -> Entry
     }
 }
 
-// The names stay; the inodes change places.
+// The names stay; each entry gets the other's inode.
 pub fn exchange(v: Volume, a: EntryNumber, b: EntryNumber) -> Changed
     ensures { λ r. ⌜ outcome (replied (r .answer)) [] (r .volume) ≡ effect fscrypt v (exchange a b) ⌝ }
 {
@@ -193,7 +193,7 @@ pub fn remove(v: Volume, n: EntryNumber) -> Changed
 
 pub fn find(v: Volume, p: InodeNumber, name: &[u8]) -> EntryAnswer
     requires { ⌜ length (now name) ≤ 255 ⌝ }
-    requires { ⌜ keyNeeded v (inodeAt v p) ≡ false ⌝ }
+    requires { ⌜ lacksKey v (inodeAt v p) ≡ false ⌝ }
     ensures { λ r. ⌜ outcome (entryAnswered r) [] v ≡ effect fscrypt v (find p (now (name .entry))) ⌝ }
 {
     let i = names::entry_of(v, p, name);

@@ -12,7 +12,7 @@ pub record Cipher : Type 0 where
   -- a padded name under a key
   pub encryptName : Bytes → Bytes → Bytes
   pub decryptName : Bytes → Bytes → Bytes
-  -- a block of contents under a derived key and the block's number
+  -- a block of contents under a derived key and the block's number; unseal is document 01's open
   pub seal : Bytes → ℕ → Bytes → Bytes
   pub unseal : Bytes → ℕ → Bytes → Bytes
 

@@ -210,7 +210,7 @@ fn decrypted(key: [u8; 64], stored: Name) -> Name
     }
 }
 
-// Whether these bytes are a plain name and its padding, or EUCLEAN; n is where the first NUL is.
+// Whether these bytes are a plain name and its padding; n is where the first NUL is.
 fn is_padded(flags: u8, b: &[u8], n: usize) -> bool
     requires { ⌜ (n ≡ firstAt isNul (now b)) × (length (now b) ≤ 255) ⌝ }
     ensures { λ r. ⌜ r ≡ isFine (Names.paddingCheck flags (now (b .entry))) ⌝ }

@@ -6,7 +6,7 @@ use volume::Key;
 use volume::Volume;
 ghost use mathlib.Core.Path.{_≡_};
 ghost use Rattle.volume.specs.Volume.{noKey};
-ghost use Rattle.volume.specs.Lookup.{isFreeKey, onKeyring, keySlotOf, freeKeySlot, keyOf, keyPresent, keyNeeded};
+ghost use Rattle.volume.specs.Lookup.{isFreeKey, onKeyring, keySlotOf, freeKeySlot, keyOf, keyPresent, lacksKey};
 
 // A free slot: all zeros.
 pub fn blank_key() -> Key
@@ -92,8 +92,8 @@ pub fn key_present(v: Volume, i: Inode) -> bool
 }
 
 // Whether the inode is encrypted and its key absent.
-pub fn key_needed(v: Volume, i: Inode) -> bool
-    ensures { λ r. ⌜ r ≡ keyNeeded v i ⌝ }
+pub fn lacks_key(v: Volume, i: Inode) -> bool
+    ensures { λ r. ⌜ r ≡ lacksKey v i ⌝ }
 {
     if !i.encrypted {
         return false;

@@ -21,8 +21,8 @@ use Rattle.fscrypt.specs.declared.Name.{Name}
 use Rattle.fscrypt.specs.declared.NameRead.{NameRead}
 use Rattle.fscrypt.proofs.Padding.{nameBytes-packed}
 use Rattle.volume.specs.Volume.{keyBytes}
-use Rattle.volume.specs.Lookup.{inodeAt, keyOf, descriptorOf, keyPresent, keyNeeded, entryNamed}
-use Rattle.volume.specs.Checks.{derivedKey, nameKey, stored, readName, shownName, isUnreadable}
+use Rattle.volume.specs.Lookup.{inodeAt, keyOf, descriptorOf, keyPresent, lacksKey, entryNamed}
+use Rattle.volume.specs.DirectoryNames.{derivedKey, nameKey, stored, readName, shownName, isUnreadable}
 use Rattle.volume.specs.declared.EntryNumber.{EntryNumber}
 use Rattle.volume.specs.declared.InodeNumber.{InodeNumber}
 use Rattle.volume.specs.declared.Key.{Key}
@@ -62,8 +62,8 @@ pub derived-by : (C : Cipher) (v : Volume) (i : Inode) (k : Key) (r : Bytes) →
 unfolding derivedKey
 derived-by C v i k r e p l q = q ∙ ap (λ (b : Bytes). C .derive b (i .context .nonce)) (whole-key v i k e p l)
 
-pub present : (v : Volume) (i : Inode) → i .encrypted ≡ true → keyNeeded v i ≡ false → keyPresent v i ≡ true
-unfolding keyNeeded
+pub present : (v : Volume) (i : Inode) → i .encrypted ≡ true → lacksKey v i ≡ false → keyPresent v i ≡ true
+unfolding lacksKey
 present v i e h = not-false (keyPresent v i) (and-known e h)
 
 module _ (C : Cipher) (v : Volume) (dir : Inode) where

@@ -18,8 +18,8 @@ ghost use lib.ListN.{length};
 ghost use Rattle.fscrypt.specs.Cipher.{fscrypt};
 ghost use Rattle.fscrypt.specs.Names.{packed};
 ghost use Rattle.volume.specs.Volume.{nameOf};
-ghost use Rattle.volume.specs.Lookup.{inodeAt, keyPresent, keyNeeded, entryNamed};
-ghost use Rattle.volume.specs.Checks.{derivedKey, stored};
+ghost use Rattle.volume.specs.Lookup.{inodeAt, keyPresent, lacksKey, entryNamed};
+ghost use Rattle.volume.specs.DirectoryNames.{derivedKey, stored};
 ghost use Rattle.names.specs.Shown.{shownRead};
 
 // The key derived for an inode whose master key is held.
@@ -39,7 +39,7 @@ pub fn derived_key(v: Volume, n: Inode) -> [u8; 64]
 // A plain name as this directory stores it.
 pub fn stored_name(v: Volume, dir: Inode, name: &[u8]) -> Name
     requires { ⌜ length (now name) ≤ 255 ⌝ }
-    requires { ⌜ keyNeeded v dir ≡ false ⌝ }
+    requires { ⌜ lacksKey v dir ≡ false ⌝ }
     ensures { λ r. ⌜ r ≡ packed (stored fscrypt v dir (now (name .entry))) ⌝ }
 {
     if !dir.encrypted {
@@ -54,7 +54,7 @@ pub fn stored_name(v: Volume, dir: Inode, name: &[u8]) -> Name
 // The entry that bears this name in the directory, or the number of slots.
 pub fn entry_of(v: Volume, p: InodeNumber, name: &[u8]) -> usize
     requires { ⌜ length (now name) ≤ 255 ⌝ }
-    requires { ⌜ keyNeeded v (inodeAt v p) ≡ false ⌝ }
+    requires { ⌜ lacksKey v (inodeAt v p) ≡ false ⌝ }
     ensures { λ r. ⌜ r ≡ entryNamed v p (stored fscrypt v (inodeAt v p) (now (name .entry))) ⌝ }
 {
     let dir = lookup::inodes::inode_at(v, p);

@@ -19,7 +19,7 @@ use Rattle.fscrypt.specs.Cipher.{Cipher}
 use Rattle.fscrypt.proofs.Padding.{name-fits}
 use Rattle.volume.specs.Volume.{keySlots, inodeSlots, entrySlots, noKey, noInode, noEntry, fresh}
 use Rattle.volume.specs.Request.{Request, Answer, refused, policyIs, Outcome, outcome, policyAnswered}
-use Rattle.volume.specs.Lookup.{keySlotOf, freeKeySlot, freeInode, freeEntry, inodeAt, keyNeeded}
+use Rattle.volume.specs.Lookup.{keySlotOf, freeKeySlot, freeInode, freeEntry, inodeAt, lacksKey}
 use Rattle.volume.specs.Checks.{isBadKind, isBadKeyLength, addKeyCheck, removeKeyCheck, createCheck, linkCheck, renameCheck, findCheck, showCheck, blockCheck}
 use Rattle.volume.specs.Step.{lent, check, effect, settle, step}
 use Rattle.volume.specs.declared.InodeNumber.{InodeNumber}
@@ -74,7 +74,7 @@ key-held v d h = leb-false keySlots (keySlotOf v d) (passed-test _ _ _ h .0)
 
 pub record NameRoom (v : Volume) (p : InodeNumber) (n : Bytes) : Type 0 where
   pub fits : length n ≤ 255
-  pub key : keyNeeded v (inodeAt v p) ≡ false
+  pub key : lacksKey v (inodeAt v p) ≡ false
 
 pub record CreateRoom (v : Volume) (p : InodeNumber) (n : Bytes) (kind : ℕ) : Type 0 where
   pub name : NameRoom v p n
@@ -144,7 +144,7 @@ show-room C v e n h = ltb-false n 255 (passed-test _ _ _ h .0)
 
 pub record BlockRoom (v : Volume) (i : InodeNumber) : Type 0 where
   pub encrypted : (inodeAt v i) .encrypted ≡ true
-  pub key : keyNeeded v (inodeAt v i) ≡ false
+  pub key : lacksKey v (inodeAt v i) ≡ false
 
 pub block-room : (v : Volume) (i : InodeNumber) (n : ℕ) → blockCheck v i n ≡ Fine → BlockRoom v i
 unfolding blockCheck

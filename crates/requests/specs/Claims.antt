@@ -2,12 +2,11 @@
 use mathlib.Core.List.{List, List·Memᴰ}
 use Rattle.fscrypt.specs.Cipher.{Cipher}
 use Rattle.volume.specs.Volume.{fresh}
-use Rattle.volume.specs.Request.{Request}
+use Rattle.volume.specs.Request.{Request, AllTyped}
 use Rattle.volume.specs.Run.{Moment, run}
 use Rattle.volume.specs.Sound.{Sound}
 use Rattle.volume.specs.SealedOpens.{Bytewise}
 use Rattle.volume.specs.ShownApart.{KeepsPromise}
-use Rattle.volume.specs.TwoRuns.{AllTyped}
 
 -- a fresh volume is sound and its bytes are bytes, and so is the volume after every request of every list
 abbrev pub AlwaysSound : Cipher → Type 0

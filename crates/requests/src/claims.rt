@@ -5,7 +5,8 @@ ghost use Rattle.lists.specs.Bytes.{ByteList};
 ghost use Rattle.fscrypt.specs.Cipher.{fscrypt};
 ghost use Rattle.volume.specs.PolicyClause.{PolicyClause};
 ghost use Rattle.volume.specs.SealedOpens.{SealedOpens};
-ghost use Rattle.volume.specs.TwoRuns.{AllTyped, thirteen, TwoRuns};
+ghost use Rattle.volume.specs.Request.{AllTyped, thirteen};
+ghost use Rattle.volume.specs.TwoRuns.{TwoRuns};
 ghost use Rattle.volume.specs.KeyedNames.{EveryRunKeyed};
 ghost use Rattle.requests.specs.Claims.{AlwaysSound, PromiseKept};
 

@@ -13,13 +13,12 @@ use Rattle.errno.specs.declared.Checked.{Checked}
 use Rattle.errno.specs.declared.Checked.the-variants.{Fine, Refused}
 use Rattle.fscrypt.specs.Cipher.{Cipher}
 use Rattle.volume.specs.Volume.{keySlots, inodeSlots, noKey, noInode, keySlot, fresh}
-use Rattle.volume.specs.Request.{Request, addKey, removeKey, setPolicy, getPolicy, create, link, rename, exchange, remove, find, show, seal, unseal, Outcome}
+use Rattle.volume.specs.Request.{Request, addKey, removeKey, setPolicy, getPolicy, create, link, rename, exchange, remove, find, show, seal, unseal, Outcome, Typed, AllTyped}
 use Rattle.volume.specs.Lookup.{inodeAt, keySlotOf, freeKeySlot, freeInode, isHeld}
 use Rattle.volume.specs.Checks.{isNonceNeeded}
 use Rattle.volume.specs.Step.{childOf, withoutUnheld, lent, check, effect, settle, step}
 use Rattle.volume.specs.Run.{Moment, momentOf, runFrom, run}
 use Rattle.volume.specs.Sound.{nodeAt}
-use Rattle.volume.specs.TwoRuns.{Typed, AllTyped}
 use Rattle.volume.specs.SealedOpens.{Bytewise}
 use Rattle.volume.specs.declared.Key.{Key}
 use Rattle.volume.specs.declared.Inode.{Inode}

@@ -22,14 +22,15 @@ use Rattle.fscrypt.specs.Cipher.{Cipher, Lawful, fscrypt}
 use Rattle.fscrypt.specs.Names.{nameCheck, encrypted}
 use Rattle.fscrypt.proofs.Lawfulness.{fscrypt-lawful}
 use Rattle.volume.specs.Volume.{nameOf, fresh}
-use Rattle.volume.specs.Request.{Request, show, refused, shown, Outcome, outcome}
-use Rattle.volume.specs.Lookup.{masterKey, descriptorOf, keyPresent, keyNeeded, entryAt, isVacant}
-use Rattle.volume.specs.Checks.{derivedKey, nameKey, stored, isUnreadable, formIn, showCheck}
+use Rattle.volume.specs.Request.{Request, show, refused, shown, Outcome, outcome, Typed, AllTyped}
+use Rattle.volume.specs.Lookup.{masterKey, descriptorOf, keyPresent, lacksKey, entryAt, isVacant}
+use Rattle.volume.specs.DirectoryNames.{derivedKey, nameKey, stored, isUnreadable, formIn}
+use Rattle.volume.specs.Checks.{showCheck}
 use Rattle.volume.specs.Step.{lent, check, effect, settle, step}
 use Rattle.volume.specs.Run.{Moment, momentOf, runFrom, run}
 use Rattle.volume.specs.Sound.{Sound, Used, slotAt, dirOf}
 use Rattle.volume.specs.SealedOpens.{Bytewise, ShowsAs}
-use Rattle.volume.specs.TwoRuns.{Typed, AllTyped, Names, later, after, namesFrom, given}
+use Rattle.volume.specs.TwoRuns.{Names, later, after, namesFrom, given}
 use Rattle.volume.specs.KeyedNames.{Keys, keyFor, renewed, keysAfter, keysFrom, namedUnder, HasKey, WrongKey, ShownByKey, EveryRunKeyed}
 use Rattle.volume.specs.declared.EntryNumber.{EntryNumber}
 use Rattle.volume.specs.declared.Inode.{Inode}
@@ -111,12 +112,12 @@ module _ (C : Cipher) where
           x .is-stored ∙ same-stored (k (e .0)) (keyFor v (e .0)) dir (x .name) (λ t. sym (same t)) ∙ sym (stored-under v dir (x .name))
 
       unreadable-wrong : Used v (e .0) → isUnreadable C v dir (nameOf (entryAt v e)) ≡ true → WrongKey v (e .0) (k (e .0))
-      unfolding isUnreadable keyNeeded
+      unfolding isUnreadable lacksKey
       unreadable-wrong u h =
           let x = all (e .0) u in
           let enc : dir .encrypted ≡ true = and-left (dir .encrypted) _ h in
           let here : keyPresent v dir ≡ true = and-left (keyPresent v dir) _ (and-right (dir .encrypted) _ h) in
-          let held : keyNeeded v dir ≡ false = ap₂ (λ (a b : Bool). a && not b) enc here in
+          let held : lacksKey v dir ≡ false = ap₂ (λ (a b : Bool). a && not b) enc here in
           record {
             in-encrypted = enc;
             present = here;
@@ -139,21 +140,21 @@ module _ (C : Cipher) where
           tests false false true s b′ h = (refl, refl)
           tests false false false s b′ h = let z : _≡_ {A = ℕ} 0 1 = cc in absurd (omega arith)
 
-      shows-given : HasKey v (e .0) (k (e .0)) → keyNeeded v dir ≡ false → (u : Used v (e .0)) → ShowsAs C v e (all (e .0) u .name)
+      shows-given : HasKey v (e .0) (k (e .0)) → lacksKey v dir ≡ false → (u : Used v (e .0)) → ShowsAs C v e (all (e .0) u .name)
       shows-given same held u =
           let x = all (e .0) u in
           shows C law v w dir (w .nonces (slotAt v (e .0) .parent .0)) (x .name) (x .bytes) (x .is-plain) held e u refl (is-stored-now u same)
 
       named-show : HasKey v (e .0) (k (e .0)) → (b : Bytes) (s : ShownEntry) → (step C v (show e b)) .answer ≡ shown s → s .form ≢ Encoded
           → g (e .0) ≡ some (take (s .len) ((step C v (show e b)) .buffer))
-      unfolding check effect showCheck formIn keyNeeded
+      unfolding check effect showCheck formIn lacksKey
       named-show same b s h f =
           let na : (m : ℕ) → refused m ≢ shown s = λ m q. let z : _≡_ {A = ℕ} 0 1 = cc in absurd (omega arith) in
           let eff = was-done C v (show e b) (shown s) na h in
           pass _ ERANGE _ (was-fine C v (show e b) (shown s) na h) λ h₁ k₁.
           pass _ ENOENT _ k₁ λ h₂ k₂.
           let form : formIn v dir ≡ s .form = form-of (ap (λ (o : Outcome). o .answer) (sym eff) ∙ h) in
-          let held : keyNeeded v dir ≡ false = with-key (dir .encrypted) (keyPresent v dir) (λ q. f (sym form ∙ q)) in
+          let held : lacksKey v dir ≡ false = with-key (dir .encrypted) (keyPresent v dir) (λ q. f (sym form ∙ q)) in
           let r = shows-given same held h₂ b (ltb-false (length b) 255 h₁) in
           all (e .0) h₂ .is-given ∙ ap some (sym (r .3) ∙ ap (λ (n : ℕ). take n ((step C v (show e b)) .buffer)) (len-of (sym (r .1) ∙ h)))
         where
@@ -182,7 +183,7 @@ module _ (C : Cipher) where
         record {
           unclean = λ e b q h. subst (λ (x : Volume). WrongKey x (e .0) (k (e .0))) (sym (same e b q)) (unclean-show g k v w all e b (sym (answer q) ∙ h));
           answered = λ e b q has held u room.
-              let h = subst (λ (x : Volume). keyNeeded x (dirOf x (e .0)) ≡ false) (same e b q) held in
+              let h = subst (λ (x : Volume). lacksKey x (dirOf x (e .0)) ≡ false) (same e b q) held in
               let a = shows-given g k v w all e (has-key e b q has) h (subst (λ (x : Volume). Used x (e .0)) (same e b q) u) b room in
               (a .0, answer q ∙ a .1, a .2);
           named = λ e b q has s h f.

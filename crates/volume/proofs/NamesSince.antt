@@ -18,12 +18,13 @@ use Rattle.policy.specs.Policies.{policyCheck}
 use Rattle.fscrypt.specs.Cipher.{Cipher, Lawful}
 use Rattle.fscrypt.specs.Names.{nameCheck}
 use Rattle.volume.specs.Volume.{entrySlots, noInode, noEntry, nameOf, entrySlot}
-use Rattle.volume.specs.Request.{Request, addKey, removeKey, setPolicy, getPolicy, create, link, rename, exchange, remove, find, show, seal, unseal, Outcome}
+use Rattle.volume.specs.Request.{Request, addKey, removeKey, setPolicy, getPolicy, create, link, rename, exchange, remove, find, show, seal, unseal, Outcome, Typed}
 use Rattle.volume.specs.Lookup.{inodeAt, freeInode, entryAt, isVacant, freeEntry, isHeld}
-use Rattle.volume.specs.Checks.{stored, setPolicyCheck, createCheck, linkCheck, renameCheck, exchangeCheck, removeCheck}
+use Rattle.volume.specs.DirectoryNames.{stored}
+use Rattle.volume.specs.Checks.{setPolicyCheck, createCheck, linkCheck, renameCheck, exchangeCheck, removeCheck}
 use Rattle.volume.specs.Step.{childOf, withoutUnheld, lent, check, effect, settle, step}
 use Rattle.volume.specs.Sound.{Sound, Used, nodeAt, slotAt, dirOf}
-use Rattle.volume.specs.TwoRuns.{Typed, onlyAt, named, naming, namedBy}
+use Rattle.volume.specs.TwoRuns.{onlyAt, named, naming, namedBy}
 use Rattle.volume.specs.declared.InodeNumber.{InodeNumber}
 use Rattle.volume.specs.declared.EntryNumber.{EntryNumber}
 use Rattle.volume.specs.declared.Inode.{Inode}

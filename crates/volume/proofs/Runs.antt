@@ -18,12 +18,12 @@ use Rattle.errno.specs.declared.Checked.{Checked}
 use Rattle.fscrypt.specs.Cipher.{Cipher, Lawful}
 use Rattle.fscrypt.proofs.Padding.{length-zeros}
 use Rattle.volume.specs.Volume.{keySlots, inodeSlots, entrySlots, noKey, noInode, plainInode, noEntry, nameOf, fresh}
-use Rattle.volume.specs.Request.{Request, addKey, removeKey, setPolicy, getPolicy, create, link, rename, exchange, remove, find, show, seal, unseal, Answer, refused, Outcome}
+use Rattle.volume.specs.Request.{Request, addKey, removeKey, setPolicy, getPolicy, create, link, rename, exchange, remove, find, show, seal, unseal, Answer, refused, Outcome, Typed, AllTyped}
 use Rattle.volume.specs.Lookup.{isFreeKey, inodeAt, isVacant}
 use Rattle.volume.specs.Step.{lent, settle, step}
 use Rattle.volume.specs.Run.{Moment, momentOf, runFrom, run}
 use Rattle.volume.specs.Sound.{slotAt}
-use Rattle.volume.specs.TwoRuns.{Typed, AllTyped, blankRequest, OneKeyEach, blankKey, blankEntry, blankVolume, blankBuffer, blank, Names, namedBy, after, namesFrom, given, NamesAsGiven, TwoRuns}
+use Rattle.volume.specs.TwoRuns.{blankRequest, OneKeyEach, blankKey, blankEntry, blankVolume, blankBuffer, blank, Names, namedBy, after, namesFrom, given, NamesAsGiven, TwoRuns}
 use Rattle.volume.specs.declared.Key.{Key}
 use Rattle.volume.specs.declared.Inode.{Inode}
 use Rattle.volume.specs.declared.Entry.{Entry}

@@ -25,12 +25,12 @@ use Rattle.fscrypt.specs.Encoded.{encoded}
 use Rattle.fscrypt.specs.declared.NameRead.{NameRead}
 use Rattle.fscrypt.proofs.Padding.{read-stored, nameBytes-packed}
 use Rattle.volume.specs.Volume.{entrySlots, noInode, noEntry, keyBytes, nameOf, entrySlot}
-use Rattle.volume.specs.Request.{Request, create, link, rename, show, seal, unseal, Answer, refused, done, created, at, shown, Outcome, outcome}
-use Rattle.volume.specs.Lookup.{keySlotOf, keyOf, masterKey, descriptorOf, keyPresent, keyNeeded, inodeAt, freeInode, entryAt, isVacant, freeEntry}
-use Rattle.volume.specs.Checks.{derivedKey, nameKey, stored, readName, shownName, isUnreadable, formIn, blockCheck, showCheck, createCheck, linkCheck, renameCheck}
+use Rattle.volume.specs.Request.{Request, create, link, rename, show, seal, unseal, Answer, refused, done, created, at, shown, Outcome, outcome, Typed}
+use Rattle.volume.specs.Lookup.{keySlotOf, keyOf, masterKey, descriptorOf, keyPresent, lacksKey, inodeAt, freeInode, entryAt, isVacant, freeEntry}
+use Rattle.volume.specs.DirectoryNames.{derivedKey, nameKey, stored, readName, shownName, isUnreadable, formIn}
+use Rattle.volume.specs.Checks.{blockCheck, showCheck, createCheck, linkCheck, renameCheck}
 use Rattle.volume.specs.Step.{lent, check, effect, settle, step, childOf}
 use Rattle.volume.specs.Sound.{Sound, nodeAt, dirOf}
-use Rattle.volume.specs.TwoRuns.{Typed}
 use Rattle.volume.specs.SealedOpens.{Bytewise, ShowsAs, SameKey, SealedOpens}
 use Rattle.volume.specs.declared.InodeNumber.{InodeNumber}
 use Rattle.volume.specs.declared.EntryNumber.{EntryNumber}
@@ -73,8 +73,8 @@ done-by C v r h = settled v (lent r) (effect C v r) (check C v r) h
 
 -- ---- what is read of a volume by the key of an inode
 
-needed-same : (v w : Volume) (node : Inode) → SameKey v w node → keyNeeded w node ≡ keyNeeded v node
-unfolding keyNeeded keyPresent
+needed-same : (v w : Volume) (node : Inode) → SameKey v w node → lacksKey w node ≡ lacksKey v node
+unfolding lacksKey keyPresent
 needed-same v w node k = ap (λ (x : Key). node .encrypted && not (isMasterKeySize (node .context .policy) (x .len))) k
 
 present-same : (v w : Volume) (node : Inode) → SameKey v w node → keyPresent w node ≡ keyPresent v node
@@ -145,7 +145,7 @@ module _ (C : Cipher) (law : Lawful C) where
   -- ---- names: a stored name is shown as it was given
 
   module _ (v : Volume) (w : Bytewise v) (dir : Inode) (hx : ByteList (dir .context .nonce)) (n : Bytes) (hn : ByteList n) (good : nameCheck n ≡ Fine)
-      (held : keyNeeded v dir ≡ false) where
+      (held : lacksKey v dir ≡ false) where
     abbrev flags : ℕ
     flags = dir .context .policy .flags
 
@@ -154,7 +154,7 @@ module _ (C : Cipher) (law : Lawful C) where
     key-bytes = bytes-take (nameKeySize (dir .context .policy)) (derivedKey C v dir) (derived-bytes v w dir hx)
 
     is-present : dir .encrypted ≡ true → keyPresent v dir ≡ true
-    unfolding keyNeeded
+    unfolding lacksKey
     is-present e = not-false (and-known e held)
 
     reads : dir .encrypted ≡ true → readName C v dir (stored C v dir n) ≡ record { checked = Fine; name = packed n }
@@ -223,11 +223,11 @@ module _ (C : Cipher) (law : Lawful C) where
     unfolding stored nameKey derivedKey keyOf keySlotOf
     stored-same dir n = refl
 
-    held-same : (dir : Inode) → keyNeeded after dir ≡ keyNeeded v dir
-    unfolding keyNeeded keyPresent keyOf keySlotOf
+    held-same : (dir : Inode) → lacksKey after dir ≡ lacksKey v dir
+    unfolding lacksKey keyPresent keyOf keySlotOf
     held-same dir = refl
 
-    shows-new : Bytewise after → (e : EntryNumber) (p i : InodeNumber) (n : Bytes) → ByteList n → nameCheck n ≡ Fine → keyNeeded v (inodeAt v p) ≡ false
+    shows-new : Bytewise after → (e : EntryNumber) (p i : InodeNumber) (n : Bytes) → ByteList n → nameCheck n ≡ Fine → lacksKey v (inodeAt v p) ≡ false
         → getD is (p .0) noInode ≡ inodeAt v p → getD es (e .0) noEntry ≡ entrySlot p i (stored C v (inodeAt v p) n) → ShowsAs C after e n
     shows-new w e p i n hn good held dir slot =
         let s = stored C v (inodeAt v p) n in

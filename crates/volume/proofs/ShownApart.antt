@@ -22,13 +22,13 @@ use Rattle.fscrypt.proofs.Padding.{padded-bytes}
 use Rattle.fscrypt.proofs.Shown.{encoded-length-low, encoded-length-high, encoded-fair}
 use Rattle.fscrypt.proofs.Distinct.{encoded-apart}
 use Rattle.volume.specs.Volume.{entrySlots, noEntry, entrySlot, nameOf, fresh}
-use Rattle.volume.specs.Request.{Request, addKey, removeKey, setPolicy, getPolicy, create, link, rename, exchange, remove, find, show, seal, unseal, refused, shown, Outcome}
+use Rattle.volume.specs.Request.{Request, addKey, removeKey, setPolicy, getPolicy, create, link, rename, exchange, remove, find, show, seal, unseal, refused, shown, Outcome, Typed, AllTyped}
 use Rattle.volume.specs.Lookup.{keyPresent, inodeAt, entryAt, freeInode, freeEntry}
-use Rattle.volume.specs.Checks.{derivedKey, nameKey, stored, readName, shownName, formIn, showCheck}
+use Rattle.volume.specs.DirectoryNames.{derivedKey, nameKey, stored, readName, shownName, formIn}
+use Rattle.volume.specs.Checks.{showCheck}
 use Rattle.volume.specs.Step.{withInode, lent, check, effect, settle, step}
 use Rattle.volume.specs.Run.{Moment, momentOf, runFrom, run}
 use Rattle.volume.specs.Sound.{Sound, Used, slotAt}
-use Rattle.volume.specs.TwoRuns.{Typed, AllTyped}
 use Rattle.volume.specs.SealedOpens.{Bytewise}
 use Rattle.volume.specs.ShownApart.{NamesBytewise, ShownKeyless, KeepsPromise}
 use Rattle.volume.specs.declared.InodeNumber.{InodeNumber}

@@ -20,7 +20,8 @@ use Rattle.fscrypt.specs.Cipher.{Cipher, Lawful}
 use Rattle.volume.specs.Volume.{inodeSlots, entrySlots, noInode, noEntry, entrySlot}
 use Rattle.volume.specs.Request.{create}
 use Rattle.volume.specs.Lookup.{inodeAt, isFree, freeInode, isBorne, isVacant, freeEntry, entryNamed, isTaken}
-use Rattle.volume.specs.Checks.{isBadKind, isNonceNeeded, stored, createCheck}
+use Rattle.volume.specs.DirectoryNames.{stored}
+use Rattle.volume.specs.Checks.{isBadKind, isNonceNeeded, createCheck}
 use Rattle.volume.specs.Step.{withInodes, withEntries, childOf, effect}
 use Rattle.volume.specs.Sound.{MayHold, nodeAt, slotAt}
 use Rattle.volume.specs.declared.InodeNumber.{InodeNumber}

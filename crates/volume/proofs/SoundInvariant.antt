@@ -25,7 +25,8 @@ use Rattle.fscrypt.specs.Names.{nameCheck, paddedLength, padded, encrypted}
 use Rattle.fscrypt.proofs.Padding.{pad-fits, length-padded, plain-name}
 use Rattle.volume.specs.Volume.{inodeSlots, noInode, noEntry, nameOf, entrySlot}
 use Rattle.volume.specs.Lookup.{inodeAt, isDirectory, bearsNonce, nonceHolder, isBorne, isVacant, isUnderItself}
-use Rattle.volume.specs.Checks.{directoryCheck, isNonceNeeded, nameKey, stored}
+use Rattle.volume.specs.DirectoryNames.{nameKey, stored}
+use Rattle.volume.specs.Checks.{directoryCheck, isNonceNeeded}
 use Rattle.volume.specs.Step.{withInode, childOf}
 use Rattle.volume.specs.Sound.{MayHold, nodeAt, slotAt}
 use Rattle.volume.specs.declared.InodeNumber.{InodeNumber}

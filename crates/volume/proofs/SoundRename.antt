@@ -17,7 +17,8 @@ use Rattle.fscrypt.specs.Names.{nameCheck}
 use Rattle.volume.specs.Volume.{noEntry, entrySlot}
 use Rattle.volume.specs.Request.{rename}
 use Rattle.volume.specs.Lookup.{inodeAt, isVacant, isTaken, isUnderItself}
-use Rattle.volume.specs.Checks.{isPolicyRefused, stored, renameCheck}
+use Rattle.volume.specs.DirectoryNames.{stored}
+use Rattle.volume.specs.Checks.{isPolicyRefused, renameCheck}
 use Rattle.volume.specs.Step.{withEntries, effect}
 use Rattle.volume.specs.Sound.{slotAt}
 use Rattle.volume.specs.declared.InodeNumber.{InodeNumber}

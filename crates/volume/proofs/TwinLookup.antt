@@ -18,8 +18,9 @@ use Rattle.policy.specs.Policies.{isMasterKeySize, nameKeySize}
 use Rattle.fscrypt.specs.Names.{nameCheck, padded, encrypted}
 use Rattle.fscrypt.proofs.Padding.{pad-fits, length-padded, padded-bytes, name-fits, plain-name}
 use Rattle.volume.specs.Volume.{inodeSlots, noKey, noInode, noEntry, nameOf}
-use Rattle.volume.specs.Lookup.{isFreeKey, onKeyring, keySlotOf, freeKeySlot, keyOf, masterKey, descriptorOf, keyPresent, keyNeeded, inodeAt, isDirectory, entryAt, isVacant, freeEntry, isIn, isNamed, entryNamed, firstChild, isLink, firstLink, parentOf, climbFrom, isMoved, isUnderItself}
-use Rattle.volume.specs.Checks.{directoryCheck, derivedKey, nameKey, stored, formIn}
+use Rattle.volume.specs.Lookup.{isFreeKey, onKeyring, keySlotOf, freeKeySlot, keyOf, masterKey, descriptorOf, keyPresent, lacksKey, inodeAt, isDirectory, entryAt, isVacant, freeEntry, isIn, isNamed, entryNamed, firstChild, isLink, firstLink, parentOf, climbFrom, isMoved, isUnderItself}
+use Rattle.volume.specs.DirectoryNames.{derivedKey, nameKey, stored, formIn}
+use Rattle.volume.specs.Checks.{directoryCheck}
 use Rattle.volume.specs.Sound.{slotAt}
 use Rattle.volume.specs.TwoRuns.{Names}
 use Rattle.volume.specs.declared.InodeNumber.{InodeNumber}
@@ -100,12 +101,12 @@ module _ (S : Setting) where
     unfolding keyPresent
     present-twin i = ap (λ (k : Key). isMasterKeySize (i .context .policy) (k .len)) (key-twin (descriptorOf i))
 
-    pub needed-twin : (i : Inode) → keyNeeded (enc S v) i ≡ keyNeeded v i
-    unfolding keyNeeded
+    pub needed-twin : (i : Inode) → lacksKey (enc S v) i ≡ lacksKey v i
+    unfolding lacksKey
     needed-twin i = ap (λ (b : Bool). i .encrypted && not b) (present-twin i)
 
-    not-needed : (i : Inode) → i .encrypted ≡ true → keyNeeded v i ≡ false → keyPresent v i ≡ true
-    unfolding keyNeeded
+    not-needed : (i : Inode) → i .encrypted ≡ true → lacksKey v i ≡ false → keyPresent v i ≡ true
+    unfolding lacksKey
     not-needed i e h = not-false (and-known e h)
 
     pub form-twin : (i : Inode) → formIn (enc S v) i ≡ formIn v i
@@ -173,7 +174,7 @@ module _ (S : Setting) where
 
     -- ---- a name stored in a directory whose key is not wanting
 
-    pub stored-twin : (dir : Inode) (n : Bytes) → keyNeeded v dir ≡ false → stored (S .cipher) (enc S v) dir n ≡ encName S dir (stored identity v dir n)
+    pub stored-twin : (dir : Inode) (n : Bytes) → lacksKey v dir ≡ false → stored (S .cipher) (enc S v) dir n ≡ encName S dir (stored identity v dir n)
     unfolding stored encrypted
     stored-twin dir n h = go (dir .encrypted) (λ e. not-needed dir e h)
       where
@@ -222,7 +223,7 @@ module _ (S : Setting) where
         not-true true e = absurd (false≢true e)
         not-true false e = refl
 
-    pub entryNamed-twin : (p : InodeNumber) (n : Bytes) → keyNeeded v (inodeAt v p) ≡ false → ByteList n
+    pub entryNamed-twin : (p : InodeNumber) (n : Bytes) → lacksKey v (inodeAt v p) ≡ false → ByteList n
         → entryNamed (enc S v) p (stored (S .cipher) (enc S v) (inodeAt v p) n) ≡ entryNamed v p (stored identity v (inodeAt v p) n)
     unfolding entryNamed
     entryNamed-twin p n h b = firstAt-map (encEntry S (v .inodes)) _ _ (v .entries) noEntry λ i.

@@ -11,7 +11,7 @@ use Rattle.lists.proofs.Tests.{eqb-self}
 use Rattle.lists.proofs.Tables.{map-set, all-set}
 use Rattle.volume.specs.Volume.{entrySlots, noInode, noEntry}
 use Rattle.volume.specs.Request.{exchange, remove, done, outcome}
-use Rattle.volume.specs.Lookup.{keyNeeded, inodeAt, entryAt, isVacant, hasEntries, isHeld, isUnderItself}
+use Rattle.volume.specs.Lookup.{lacksKey, inodeAt, entryAt, isVacant, hasEntries, isHeld, isUnderItself}
 use Rattle.volume.specs.Checks.{isPolicyRefused, exchangeCheck, removeCheck}
 use Rattle.volume.specs.Step.{withEntries, withInode, withoutUnheld, check, effect}
 use Rattle.volume.specs.TwoRuns.{Names, blankBuffer, namedBy, naming, named}
@@ -60,8 +60,8 @@ module _ (S : Setting) {g : Names} (v : Volume) (ok : Inv S g v) where
       let f = encEntry S (v .inodes) in
       test _ tt (ap isVacant ea) λ h₁.
       test _ tt (ap isVacant eb) λ h₂.
-      test _ tt (ap (λ (e : Entry). keyNeeded (enc S v) (inodeAt v (e .parent))) ea ∙ needed-twin S v ok (inodeAt v (x .parent))) λ h₃.
-      test _ tt (ap (λ (e : Entry). keyNeeded (enc S v) (inodeAt v (e .parent))) eb ∙ needed-twin S v ok (inodeAt v (y .parent))) λ h₄.
+      test _ tt (ap (λ (e : Entry). lacksKey (enc S v) (inodeAt v (e .parent))) ea ∙ needed-twin S v ok (inodeAt v (x .parent))) λ h₃.
+      test _ tt (ap (λ (e : Entry). lacksKey (enc S v) (inodeAt v (e .parent))) eb ∙ needed-twin S v ok (inodeAt v (y .parent))) λ h₄.
       test _ tt (ap₂ (λ (e e′ : Entry). isPolicyRefused (inodeAt v (e .parent)) (inodeAt v (e′ .inode))) ea eb) λ h₅.
       test _ tt (ap₂ (λ (e e′ : Entry). isPolicyRefused (inodeAt v (e′ .parent)) (inodeAt v (e .inode))) ea eb) λ h₆.
       test _ tt (ap₂ (λ (e e′ : Entry). isUnderItself (enc S v) (e .inode) (e′ .parent)) ea eb ∙ under-twin S v ok (x .inode) (y .parent)) λ h₇.

@@ -13,8 +13,9 @@ use Rattle.lists.proofs.Tables.{all-set, firstAt-passes}
 use Rattle.policy.specs.Policies.{policyCheck, readPolicy}
 use Rattle.volume.specs.Volume.{entrySlots, noInode, plainInode, encryptedInode, entrySlot}
 use Rattle.volume.specs.Request.{setPolicy, create, link, rename, done, created, at, outcome}
-use Rattle.volume.specs.Lookup.{keyNeeded, inodeAt, isFree, freeInode, nonceHolder, entryAt, isVacant, freeEntry, hasEntries, isUnderItself}
-use Rattle.volume.specs.Checks.{isPolicyRefused, isNonceNeeded, stored, setPolicyCheck, createCheck, linkCheck, renameCheck}
+use Rattle.volume.specs.Lookup.{lacksKey, inodeAt, isFree, freeInode, nonceHolder, entryAt, isVacant, freeEntry, hasEntries, isUnderItself}
+use Rattle.volume.specs.DirectoryNames.{stored}
+use Rattle.volume.specs.Checks.{isPolicyRefused, isNonceNeeded, setPolicyCheck, createCheck, linkCheck, renameCheck}
 use Rattle.volume.specs.Step.{withInodes, withEntries, childOf, check, effect}
 use Rattle.volume.specs.Sound.{slotAt, Used, dirOf}
 use Rattle.volume.specs.TwoRuns.{Names, blankBuffer, namedBy, naming, named}
@@ -150,7 +151,7 @@ module _ (S : Setting) {g : Names} (v : Volume) (ok : Inv S g v) where
       part (name-part S v ok n) λ plain.
       test _ tt (ap isVacant o) λ h₁.
       part (directory-part S v ok p) λ dir.
-      test _ tt (ap (λ (x : Entry). keyNeeded (enc S v) (inodeAt v (x .parent))) o ∙ needed-twin S v ok (inodeAt v ((entryAt v e) .parent))) λ h₂.
+      test _ tt (ap (λ (x : Entry). lacksKey (enc S v) (inodeAt v (x .parent))) o ∙ needed-twin S v ok (inodeAt v ((entryAt v e) .parent))) λ h₂.
       test _ tt (needed-twin S v ok (inodeAt v p)) λ key.
       test _ tt (ap (λ (x : Entry). isPolicyRefused (inodeAt v p) (inodeAt v (x .inode))) o) λ h₃.
       test _ tt (ap (λ (x : Entry). isUnderItself (enc S v) (x .inode) p) o ∙ under-twin S v ok i p) λ h₄.

@@ -23,7 +23,8 @@ use Rattle.fscrypt.proofs.Shown.{marks, encoded-long, length-short, length-long
 use Rattle.volume.specs.Volume.{nameOf}
 use Rattle.volume.specs.Request.{show, Answer, shown, outcome}
 use Rattle.volume.specs.Lookup.{keyPresent, inodeAt, entryAt, isVacant}
-use Rattle.volume.specs.Checks.{nameKey, readName, shownName, isUnreadable, formIn, showCheck}
+use Rattle.volume.specs.DirectoryNames.{nameKey, readName, shownName, isUnreadable, formIn}
+use Rattle.volume.specs.Checks.{showCheck}
 use Rattle.volume.specs.Step.{check, effect}
 use Rattle.volume.specs.TwoRuns.{Names, blankLetters, blankShown, blankName, blankBuffer, namedBy, naming, named}
 use Rattle.volume.specs.declared.EntryNumber.{EntryNumber}

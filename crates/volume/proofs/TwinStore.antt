@@ -17,8 +17,8 @@ use Rattle.lists.proofs.Tables.{map-set, map-agree, all-set, firstAt-none}
 use Rattle.errno.specs.declared.Checked.the-variants.{Fine}
 use Rattle.fscrypt.specs.Names.{nameCheck}
 use Rattle.volume.specs.Volume.{entrySlots, noInode, noEntry, nameOf, entrySlot}
-use Rattle.volume.specs.Lookup.{keyNeeded, inodeAt, isVacant, isIn, firstChild, hasEntries}
-use Rattle.volume.specs.Checks.{stored}
+use Rattle.volume.specs.Lookup.{lacksKey, inodeAt, isVacant, isIn, firstChild, hasEntries}
+use Rattle.volume.specs.DirectoryNames.{stored}
 use Rattle.volume.specs.Step.{withInodes}
 use Rattle.volume.specs.Sound.{slotAt, Used, dirOf}
 use Rattle.volume.specs.TwoRuns.{Names, onlyAt, later}
@@ -91,7 +91,7 @@ module _ (S : Setting) {g : Names} (v : Volume) (ok : Inv S g v) where
 
     -- and a name is stored in the entry e
     module _ (p : InodeNumber) (e : EntryNumber) (i : InodeNumber) (n : Bytes) (here : getD is′ (p .0) noInode ≡ inodeAt v p)
-        (kind : (inodeAt v p) .kind ≡ 1) (good : nameCheck n ≡ Fine) (nb : ByteList n) (key : keyNeeded v (inodeAt v p) ≡ false) where
+        (kind : (inodeAt v p) .kind ≡ 1) (good : nameCheck n ≡ Fine) (nb : ByteList n) (key : lacksKey v (inodeAt v p) ≡ false) where
       abbrev slot : Entry
       slot = entrySlot p i (stored identity v (inodeAt v p) n)
 

@@ -6,8 +6,7 @@ use mathlib.Core.List.{List, [], _∷_, List·Memᴰ, List·Memᴰ·not-nil, Lis
 use Prim.Native.Nat.{ℕ}
 use lib.ListN.{length}
 use Rattle.lists.specs.Bytes.{Bytes, ByteList}
-use Rattle.volume.specs.Request.{Request}
-use Rattle.volume.specs.TwoRuns.{Typed, AllTyped, thirteen}
+use Rattle.volume.specs.Request.{Request, Typed, AllTyped, thirteen}
 use Rattle.volume.specs.declared.InodeNumber.{InodeNumber}
 use Rattle.volume.specs.declared.EntryNumber.{EntryNumber}
 

@@ -11,11 +11,11 @@ use Rattle.lists.specs.Bytes.{Bytes}
 use Rattle.errno.specs.Refusals.{number}
 use Rattle.errno.specs.declared.Errno.the-variants.{EUCLEAN}
 use Rattle.fscrypt.specs.Cipher.{Cipher}
-use Rattle.volume.specs.Request.{Request, show, refused, shown}
-use Rattle.volume.specs.Lookup.{masterKey, descriptorOf, keyPresent, keyNeeded}
+use Rattle.volume.specs.Request.{Request, show, refused, shown, AllTyped}
+use Rattle.volume.specs.Lookup.{masterKey, descriptorOf, keyPresent, lacksKey}
 use Rattle.volume.specs.Run.{Moment, run}
 use Rattle.volume.specs.Sound.{Used, dirOf}
-use Rattle.volume.specs.TwoRuns.{AllTyped, Names, namedBy, given}
+use Rattle.volume.specs.TwoRuns.{Names, namedBy, given}
 use Rattle.volume.specs.declared.EntryNumber.{EntryNumber}
 use Rattle.volume.specs.declared.Volume.{Volume}
 use Rattle.volume.specs.declared.ShownEntry.{ShownEntry}
@@ -60,7 +60,7 @@ pub record WrongKey (v : Volume) (e : ℕ) (key : Bytes) : Type 0 where
 -- in use is shown plain or decrypted, if the buffer has room; and a name so shown is the given one
 pub record ShownByKey (g : Names) (k : Keys) (m : Moment) : Type 0 where
   pub unclean : (e : EntryNumber) (b : Bytes) → m .request ≡ show e b → m .answer ≡ refused (number EUCLEAN) → WrongKey (m .volume) (e .0) (k (e .0))
-  pub answered : (e : EntryNumber) (b : Bytes) → m .request ≡ show e b → HasKey (m .volume) (e .0) (k (e .0)) → keyNeeded (m .volume) (dirOf (m .volume) (e .0)) ≡ false
+  pub answered : (e : EntryNumber) (b : Bytes) → m .request ≡ show e b → HasKey (m .volume) (e .0) (k (e .0)) → lacksKey (m .volume) (dirOf (m .volume) (e .0)) ≡ false
       → Used (m .volume) (e .0) → 255 ≤ length b → (s : ShownEntry) × (m .answer ≡ shown s) × (s .form ≢ Encoded)
   pub named : (e : EntryNumber) (b : Bytes) → m .request ≡ show e b → HasKey (m .volume) (e .0) (k (e .0))
       → (s : ShownEntry) → m .answer ≡ shown s → s .form ≢ Encoded → g (e .0) ≡ some (take (s .len) (m .buffer))

@@ -2,6 +2,7 @@
 pub mod Volume
 pub mod Request
 pub mod Lookup
+pub mod DirectoryNames
 pub mod Checks
 pub mod Step
 pub mod Run

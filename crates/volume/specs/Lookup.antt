@@ -49,8 +49,8 @@ unfoldable pub keyPresent : Volume → Inode → Bool
 keyPresent v i = isMasterKeySize (i .context .policy) (keyOf v (descriptorOf i) .len)
 
 -- the inode is encrypted and its key is absent
-unfoldable pub keyNeeded : Volume → Inode → Bool
-keyNeeded v i = i .encrypted && not (keyPresent v i)
+unfoldable pub lacksKey : Volume → Inode → Bool
+lacksKey v i = i .encrypted && not (keyPresent v i)
 
 -- ---- inodes
 

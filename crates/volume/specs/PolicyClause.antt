@@ -12,13 +12,12 @@ use Rattle.errno.specs.declared.Errno.the-variants.{EPERM}
 use Rattle.errno.specs.declared.Checked.the-variants.{Fine}
 use Rattle.fscrypt.specs.Cipher.{Cipher}
 use Rattle.fscrypt.specs.Names.{nameCheck}
-use Rattle.volume.specs.Request.{Request, rename, link, exchange, refused}
-use Rattle.volume.specs.Lookup.{keyNeeded, inodeAt, isFree, isDirectory, entryAt, isVacant}
+use Rattle.volume.specs.Request.{Request, rename, link, exchange, refused, AllTyped}
+use Rattle.volume.specs.Lookup.{lacksKey, inodeAt, isFree, isDirectory, entryAt, isVacant}
 use Rattle.volume.specs.Checks.{directoryCheck}
 use Rattle.volume.specs.Step.{step}
 use Rattle.volume.specs.Run.{Moment, run}
 use Rattle.volume.specs.Sound.{BearsPolicy, Used, dirOf, nodeOf}
-use Rattle.volume.specs.TwoRuns.{AllTyped}
 use Rattle.volume.specs.declared.InodeNumber.{InodeNumber}
 use Rattle.volume.specs.declared.EntryNumber.{EntryNumber}
 use Rattle.volume.specs.declared.Inode.{Inode}
@@ -37,20 +36,20 @@ pub record LinkReady (v : Volume) (i p : InodeNumber) (n : Bytes) : Type 0 where
   pub inode : isFree (inodeAt v i) ≡ false
   pub parent : directoryCheck v p ≡ Fine
   pub not-directory : isDirectory (inodeAt v i) ≡ false
-  pub key : keyNeeded v (inodeAt v p) ≡ false
+  pub key : lacksKey v (inodeAt v p) ≡ false
 
 pub record RenameReady (v : Volume) (e : EntryNumber) (p : InodeNumber) (n : Bytes) : Type 0 where
   pub name : nameCheck n ≡ Fine
   pub entry : isVacant (entryAt v e) ≡ false
   pub parent : directoryCheck v p ≡ Fine
-  pub old-key : keyNeeded v (inodeAt v (entryAt v e .parent)) ≡ false
-  pub key : keyNeeded v (inodeAt v p) ≡ false
+  pub old-key : lacksKey v (inodeAt v (entryAt v e .parent)) ≡ false
+  pub key : lacksKey v (inodeAt v p) ≡ false
 
 pub record ExchangeReady (v : Volume) (a b : EntryNumber) : Type 0 where
   pub one : isVacant (entryAt v a) ≡ false
   pub other : isVacant (entryAt v b) ≡ false
-  pub one-key : keyNeeded v (inodeAt v (entryAt v a .parent)) ≡ false
-  pub other-key : keyNeeded v (inodeAt v (entryAt v b .parent)) ≡ false
+  pub one-key : lacksKey v (inodeAt v (entryAt v a .parent)) ≡ false
+  pub other-key : lacksKey v (inodeAt v (entryAt v b .parent)) ≡ false
 
 -- "EPERM 1 | linking a folder; first policy on the root; the policy refusal"
 abbrev pub policyRefusal : Errno

@@ -1,7 +1,10 @@
 -- The thirteen requests and their answers, document 01, "What may be asked".
 -- Sentences in quotation marks are document 01's, in its words. Assumes nothing.
 use Prim.Native.Nat.{ℕ}
-use Rattle.lists.specs.Bytes.{Bytes, zeros}
+use mathlib.Core.Path.{_≡_}
+use mathlib.Core.List.{List, [], _∷_, List·Memᴰ}
+use lib.ListN.{length}
+use Rattle.lists.specs.Bytes.{Bytes, ByteList}
 use Rattle.errno.specs.Refusals.{number}
 use Rattle.volume.specs.declared.InodeNumber.{InodeNumber}
 use Rattle.volume.specs.declared.EntryNumber.{EntryNumber}
@@ -30,7 +33,49 @@ pub data Request : Type 0 where
   find : (parent : InodeNumber) (name : Bytes) → Request
   show : (entry : EntryNumber) (buffer : Bytes) → Request
   seal : (inode : InodeNumber) (number : ℕ) (block : Bytes) → Request
+  -- document 01's open
   unseal : (inode : InodeNumber) (number : ℕ) (block : Bytes) → Request
+
+-- ---- the types of a request's parts
+
+-- what the types of a request's parts say: bytes are bytes, and "Descriptors and nonces are always 8 and 16 bytes by their type"
+abbrev pub Typed : Request → Type 0
+Typed (addKey d k) = (length d ≡ 8) × ByteList d × ByteList k
+Typed (removeKey d) = (length d ≡ 8) × ByteList d
+Typed (setPolicy i p x) = ByteList p × (length x ≡ 16) × ByteList x
+Typed (getPolicy i) = Unit {0}
+Typed (create p kind n x) = ByteList n × (length x ≡ 16) × ByteList x
+Typed (link i p n) = ByteList n
+Typed (rename e p n) = ByteList n
+Typed (exchange a b) = Unit {0}
+Typed (remove e) = Unit {0}
+Typed (find p n) = ByteList n
+Typed (show e b) = ByteList b
+Typed (seal i n b) = ByteList b
+Typed (unseal i n b) = ByteList b
+
+abbrev pub AllTyped : List Request → Type 0
+AllTyped rs = (r : Request) → List·Memᴰ r rs → Typed r
+
+-- each of the thirteen requests, with any parts
+abbrev pub thirteen : InodeNumber → InodeNumber → EntryNumber → EntryNumber → ℕ → ℕ → Bytes → Bytes → Bytes → List Request
+thirteen i p a b kind number d x s =
+    addKey d s
+    ∷ removeKey d
+    ∷ setPolicy i s x
+    ∷ getPolicy i
+    ∷ create p kind s x
+    ∷ link i p s
+    ∷ rename a p s
+    ∷ exchange a b
+    ∷ remove a
+    ∷ find p s
+    ∷ show a s
+    ∷ seal i number s
+    ∷ unseal i number s
+    ∷ []
+
+-- ---- answers
 
 -- "Create answers the new thing and place, link the new place, find the place, get policy the 12 bytes; show answers parent, thing, kind, form, length and
 -- name" (the name in the lent buffer). "All others answer done". A refusal is its number alone.

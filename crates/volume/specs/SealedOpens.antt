@@ -6,11 +6,10 @@ use mathlib.Core.Logic.{_≢_}
 use lib.ListN.{length, take}
 use Rattle.lists.specs.Bytes.{Bytes, ByteList}
 use Rattle.fscrypt.specs.Cipher.{Cipher}
-use Rattle.volume.specs.Request.{create, link, rename, show, seal, unseal, done, created, at, shown, outcome}
+use Rattle.volume.specs.Request.{create, link, rename, show, seal, unseal, done, created, at, shown, outcome, Typed}
 use Rattle.volume.specs.Lookup.{keyOf, descriptorOf, inodeAt, entryAt}
 use Rattle.volume.specs.Step.{step}
 use Rattle.volume.specs.Sound.{Sound, keyAt, nodeAt, dirOf}
-use Rattle.volume.specs.TwoRuns.{Typed}
 use Rattle.volume.specs.declared.InodeNumber.{InodeNumber}
 use Rattle.volume.specs.declared.EntryNumber.{EntryNumber}
 use Rattle.volume.specs.declared.Inode.{Inode}

@@ -14,7 +14,8 @@ use Rattle.fscrypt.specs.Cipher.{Cipher}
 use Rattle.volume.specs.Volume.{noKey, noInode, noEntry, plainInode, encryptedInode, keySlot, entrySlot, nameOf}
 use Rattle.volume.specs.Request.{Request, addKey, removeKey, setPolicy, getPolicy, create, link, rename, exchange, remove, find, show, seal, unseal, Answer, refused, done, created, at, policyIs, shown, Outcome, outcome}
 use Rattle.volume.specs.Lookup.{keySlotOf, freeKeySlot, inodeAt, freeInode, entryAt, freeEntry, entryNamed, isHeld}
-use Rattle.volume.specs.Checks.{derivedKey, stored, shownName, formIn, isNonceNeeded, addKeyCheck, removeKeyCheck, setPolicyCheck, getPolicyCheck, createCheck, linkCheck, renameCheck, exchangeCheck, removeCheck, findCheck, showCheck, blockCheck}
+use Rattle.volume.specs.DirectoryNames.{derivedKey, stored, shownName, formIn}
+use Rattle.volume.specs.Checks.{isNonceNeeded, addKeyCheck, removeKeyCheck, setPolicyCheck, getPolicyCheck, createCheck, linkCheck, renameCheck, exchangeCheck, removeCheck, findCheck, showCheck, blockCheck}
 use Rattle.volume.specs.declared.InodeNumber.{InodeNumber}
 use Rattle.volume.specs.declared.EntryNumber.{EntryNumber}
 use Rattle.volume.specs.declared.Key.{Key}

@@ -12,7 +12,7 @@ use Rattle.lists.specs.Bytes.{Bytes, ByteList, zeros}
 use Rattle.errno.specs.Refusals.{number}
 use Rattle.errno.specs.declared.Errno.the-variants.{EUCLEAN}
 use Rattle.fscrypt.specs.Cipher.{Cipher}
-use Rattle.volume.specs.Request.{Request, addKey, removeKey, setPolicy, getPolicy, create, link, rename, exchange, remove, find, show, seal, unseal, Answer, refused, done, created, at, policyIs, shown}
+use Rattle.volume.specs.Request.{Request, AllTyped, addKey, removeKey, setPolicy, getPolicy, create, link, rename, exchange, remove, find, show, seal, unseal, Answer, refused, done, created, at, policyIs, shown}
 use Rattle.volume.specs.Lookup.{inodeAt}
 use Rattle.volume.specs.Run.{Moment, run}
 use Rattle.volume.specs.declared.InodeNumber.{InodeNumber}
@@ -26,43 +26,6 @@ use Rattle.volume.specs.declared.Form.{Form}
 use Rattle.volume.specs.declared.Form.the-variants.{Plain, Decrypted, Encoded}
 
 -- ---- the two lists
-
--- what the types of a request's parts say: bytes are bytes, and "Descriptors and nonces are always 8 and 16 bytes by their type"
-abbrev pub Typed : Request → Type 0
-Typed (addKey d k) = (length d ≡ 8) × ByteList d × ByteList k
-Typed (removeKey d) = (length d ≡ 8) × ByteList d
-Typed (setPolicy i p x) = ByteList p × (length x ≡ 16) × ByteList x
-Typed (getPolicy i) = Unit {0}
-Typed (create p kind n x) = ByteList n × (length x ≡ 16) × ByteList x
-Typed (link i p n) = ByteList n
-Typed (rename e p n) = ByteList n
-Typed (exchange a b) = Unit {0}
-Typed (remove e) = Unit {0}
-Typed (find p n) = ByteList n
-Typed (show e b) = ByteList b
-Typed (seal i n b) = ByteList b
-Typed (unseal i n b) = ByteList b
-
-abbrev pub AllTyped : List Request → Type 0
-AllTyped rs = (r : Request) → List·Memᴰ r rs → Typed r
-
--- each of the thirteen requests, with any parts
-abbrev pub thirteen : InodeNumber → InodeNumber → EntryNumber → EntryNumber → ℕ → ℕ → Bytes → Bytes → Bytes → List Request
-thirteen i p a b kind number d x s =
-    addKey d s
-    ∷ removeKey d
-    ∷ setPolicy i s x
-    ∷ getPolicy i
-    ∷ create p kind s x
-    ∷ link i p s
-    ∷ rename a p s
-    ∷ exchange a b
-    ∷ remove a
-    ∷ find p s
-    ∷ show a s
-    ∷ seal i number s
-    ∷ unseal i number s
-    ∷ []
 
 -- the request with zeros for the bytes of its key
 unfoldable pub blankRequest : Request → Request

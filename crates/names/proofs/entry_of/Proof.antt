@@ -1,7 +1,7 @@
 -- `entry_of`: the search for the name as the directory stores it. Assumes nothing.
 use Rattle.names.proofs.Reading.{entry-by}
 use Rattle.fscrypt.specs.Cipher.{fscrypt}
-use Rattle.volume.specs.Lookup.{keyNeeded}
+use Rattle.volume.specs.Lookup.{lacksKey}
 use mathlib.Core.Path.{_≡_, ap, _∙_}
 use borrow.Author.Needs.{needs}
 use Rattle.names.proofs.entry_of.Statement.{statement}
@@ -11,7 +11,7 @@ inode-at-requires : tie.Need-inode-at-requires
 inode-at-requires c κs = search needs
 
 stored-name-requires : tie.Need-stored-name-requires
-stored-name-requires c κs = (c .before .before .pre .0, ap (keyNeeded _) (c .inode-at .ensures) ∙ c .before .before .pre .1)
+stored-name-requires c κs = (c .before .before .pre .0, ap (lacksKey _) (c .inode-at .ensures) ∙ c .before .before .pre .1)
 
 entry-named-requires : tie.Need-entry-named-requires
 entry-named-requires c κs = search needs

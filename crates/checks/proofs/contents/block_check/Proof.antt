@@ -24,8 +24,8 @@ returns-4 : tie.Need-returns-4
 unfolding blockCheck
 returns-4 c = search lines depth 25
 
-is-key-needed-requires : tie.Need-is-key-needed-requires
-is-key-needed-requires c κs = search needs
+lacks-key-requires : tie.Need-lacks-key-requires
+lacks-key-requires c κs = search needs
 
 returns-5 : tie.Need-returns-5
 unfolding blockCheck
@@ -44,6 +44,6 @@ block-check-spec =
     returns-2
     returns-3
     returns-4
-    is-key-needed-requires
+    lacks-key-requires
     returns-5
     returns-6)

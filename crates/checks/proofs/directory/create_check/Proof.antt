@@ -1,6 +1,5 @@
 -- `create_check` is `createCheck`: line by line of its table, the end of which is `roomCheck`. Assumes nothing.
 use Rattle.volume.specs.Checks.{createCheck}
-use Rattle.checks.specs.Parts.{roomCheck}
 use Rattle.checks.proofs.Lines.{calls, fits}
 use mathlib.Core.Path.{_≡_, sym, _∙_}
 use borrow.Author.Needs.{needs}
@@ -40,15 +39,15 @@ returns-3 c = search calls depth 25
 enum-told-2 : tie.Need-enum-told-2
 enum-told-2 c = search needs
 
-is-key-needed-requires : tie.Need-is-key-needed-requires
-is-key-needed-requires c κs = search needs
+lacks-key-requires : tie.Need-lacks-key-requires
+lacks-key-requires c κs = search needs
 
 returns-4 : tie.Need-returns-4
 unfolding createCheck
 returns-4 c = search calls depth 25
 
 entry-of-requires : tie.Need-entry-of-requires
-entry-of-requires c κs = (search fits, sym (c .before .is-key-needed .ensures) ∙ c .if2 .left)
+entry-of-requires c κs = (search fits, sym (c .before .lacks-key .ensures) ∙ c .if2 .left)
 
 returns-5 : tie.Need-returns-5
 unfolding createCheck
@@ -58,7 +57,7 @@ room-check-requires : tie.Need-room-check-requires
 room-check-requires c κs = search needs
 
 returns-6 : tie.Need-returns-6
-unfolding createCheck roomCheck
+unfolding createCheck
 returns-6 c = search calls depth 25
 
 pub create-check-spec : {M : Type 1} → statement M
@@ -75,7 +74,7 @@ create-check-spec =
     enum-known-e-2
     returns-3
     enum-told-2
-    is-key-needed-requires
+    lacks-key-requires
     returns-4
     entry-of-requires
     returns-5

@@ -1,6 +1,5 @@
 -- `exchange_check` is `exchangeCheck`: line by line of its table, the end of which is `swapCheck` of the entries that were looked up. Assumes nothing.
 use Rattle.volume.specs.Checks.{exchangeCheck}
-use Rattle.checks.specs.Parts.{swapCheck}
 use Rattle.checks.proofs.Lines.{lines}
 use borrow.Author.Needs.{needs}
 use Rattle.checks.proofs.directory.exchange_check.Statement.{statement}
@@ -24,7 +23,7 @@ swap-check-requires : tie.Need-swap-check-requires
 swap-check-requires c κs = search needs
 
 returns-3 : tie.Need-returns-3
-unfolding exchangeCheck swapCheck
+unfolding exchangeCheck
 returns-3 c = rw (← c .before .before .before .before .before .before .before .before .before .before .entry-at .ensures, ← c .before .before .before .before .before .before .before .entry-at2 .ensures) (search lines depth 25)
 
 pub exchange-check-spec : {M : Type 1} → statement M

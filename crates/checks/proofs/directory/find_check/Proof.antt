@@ -32,8 +32,8 @@ returns-2 c = search calls depth 25
 enum-told-2 : tie.Need-enum-told-2
 enum-told-2 c = search needs
 
-is-key-needed-requires : tie.Need-is-key-needed-requires
-is-key-needed-requires c κs = search needs
+lacks-key-requires : tie.Need-lacks-key-requires
+lacks-key-requires c κs = search needs
 
 returns-3 : tie.Need-returns-3
 unfolding findCheck
@@ -62,7 +62,7 @@ find-check-spec =
     enum-known-e-2
     returns-2
     enum-told-2
-    is-key-needed-requires
+    lacks-key-requires
     returns-3
     entry-of-requires
     returns-4

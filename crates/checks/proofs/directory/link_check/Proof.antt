@@ -1,6 +1,5 @@
 -- `link_check` is `linkCheck`: line by line of its table, the end of which is `linkedCheck`. Assumes nothing.
 use Rattle.volume.specs.Checks.{linkCheck}
-use Rattle.checks.specs.Parts.{linkedCheck}
 use Rattle.checks.proofs.Lines.{lines, fits}
 use borrow.Author.Needs.{needs}
 use Rattle.checks.proofs.directory.link_check.Statement.{statement}
@@ -43,7 +42,7 @@ linked-check-requires : tie.Need-linked-check-requires
 linked-check-requires c κs = search fits
 
 returns-4 : tie.Need-returns-4
-unfolding linkCheck linkedCheck
+unfolding linkCheck
 returns-4 c = search lines depth 25
 
 pub link-check-spec : {M : Type 1} → statement M

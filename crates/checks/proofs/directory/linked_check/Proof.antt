@@ -1,5 +1,4 @@
 -- `linked_check` is `linkedCheck`: line by line of its table. Assumes nothing.
-use Rattle.checks.specs.Parts.{linkedCheck}
 use Rattle.checks.proofs.Lines.{lines}
 use Rattle.lists.proofs.Predicates.{bool-via}
 use borrow.Author.Needs.{needs}
@@ -10,39 +9,33 @@ inode-at-requires : tie.Need-inode-at-requires
 inode-at-requires c κs = search needs
 
 returns : tie.Need-returns
-unfolding linkedCheck
 returns c = search lines depth 25
 
-is-key-needed-requires : tie.Need-is-key-needed-requires
-is-key-needed-requires c κs = search needs
+lacks-key-requires : tie.Need-lacks-key-requires
+lacks-key-requires c κs = search needs
 
 returns-2 : tie.Need-returns-2
-unfolding linkedCheck
 returns-2 c = search lines depth 25
 
 is-refused-in-requires : tie.Need-is-refused-in-requires
 is-refused-in-requires c κs = search needs
 
 returns-3 : tie.Need-returns-3
-unfolding linkedCheck
 returns-3 c = search lines depth 25
 
 entry-of-requires : tie.Need-entry-of-requires
 entry-of-requires c κs = (search needs, search bool-via)
 
 returns-4 : tie.Need-returns-4
-unfolding linkedCheck
 returns-4 c = search lines depth 25
 
 free-entry-requires : tie.Need-free-entry-requires
 free-entry-requires c κs = search needs
 
 returns-5 : tie.Need-returns-5
-unfolding linkedCheck
 returns-5 c = search lines depth 25
 
 returns-6 : tie.Need-returns-6
-unfolding linkedCheck
 returns-6 c = search lines depth 25
 
 pub linked-check-spec : {M : Type 1} → statement M
@@ -51,7 +44,7 @@ linked-check-spec =
     (tie.spec
     inode-at-requires
     returns
-    is-key-needed-requires
+    lacks-key-requires
     returns-2
     is-refused-in-requires
     returns-3

@@ -1,5 +1,4 @@
 -- `move_check` is `moveCheck`: line by line of its table. Assumes nothing.
-use Rattle.checks.specs.Parts.{moveCheck}
 use Rattle.checks.proofs.Lines.{calls}
 use mathlib.Core.Path.{_≡_, sym, _∙_}
 use borrow.Author.Needs.{needs}
@@ -13,49 +12,42 @@ enum-known-e : tie.Need-enum-known-e
 enum-known-e c = search needs
 
 returns : tie.Need-returns
-unfolding moveCheck
 returns c = search calls depth 25
 
 enum-told : tie.Need-enum-told
 enum-told c = search needs
 
-is-key-needed-requires : tie.Need-is-key-needed-requires
-is-key-needed-requires c κs = search needs
+lacks-key-requires : tie.Need-lacks-key-requires
+lacks-key-requires c κs = search needs
 
 returns-2 : tie.Need-returns-2
-unfolding moveCheck
 returns-2 c = search calls depth 25
 
-is-key-needed-requires-2 : tie.Need-is-key-needed-requires-2
-is-key-needed-requires-2 c κs = search needs
+lacks-key-requires-2 : tie.Need-lacks-key-requires-2
+lacks-key-requires-2 c κs = search needs
 
 returns-3 : tie.Need-returns-3
-unfolding moveCheck
 returns-3 c = search calls depth 25
 
 is-refused-in-requires : tie.Need-is-refused-in-requires
 is-refused-in-requires c κs = search needs
 
 returns-4 : tie.Need-returns-4
-unfolding moveCheck
 returns-4 c = search calls depth 25
 
 is-under-itself-requires : tie.Need-is-under-itself-requires
 is-under-itself-requires c κs = search needs
 
 returns-5 : tie.Need-returns-5
-unfolding moveCheck
 returns-5 c = search calls depth 25
 
 entry-of-requires : tie.Need-entry-of-requires
-entry-of-requires c κs = (search needs, sym (c .before .before .before .before .before .is-key-needed2 .ensures) ∙ c .before .before .before .before .if2 .left)
+entry-of-requires c κs = (search needs, sym (c .before .before .before .before .before .lacks-key2 .ensures) ∙ c .before .before .before .before .if2 .left)
 
 returns-6 : tie.Need-returns-6
-unfolding moveCheck
 returns-6 c = search calls depth 25
 
 returns-7 : tie.Need-returns-7
-unfolding moveCheck
 returns-7 c = search calls depth 25
 
 pub move-check-spec : {M : Type 1} → statement M
@@ -66,9 +58,9 @@ move-check-spec =
     enum-known-e
     returns
     enum-told
-    is-key-needed-requires
+    lacks-key-requires
     returns-2
-    is-key-needed-requires-2
+    lacks-key-requires-2
     returns-3
     is-refused-in-requires
     returns-4

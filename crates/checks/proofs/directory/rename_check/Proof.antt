@@ -1,6 +1,5 @@
 -- `rename_check` is `renameCheck`: line by line of its table, the end of which is `moveCheck` of the entry that was looked up. Assumes nothing.
 use Rattle.volume.specs.Checks.{renameCheck}
-use Rattle.checks.specs.Parts.{moveCheck}
 use Rattle.checks.proofs.Lines.{lines, fits}
 use borrow.Author.Needs.{needs}
 use Rattle.checks.proofs.directory.rename_check.Statement.{statement}
@@ -30,7 +29,7 @@ move-check-requires : tie.Need-move-check-requires
 move-check-requires c κs = search fits
 
 returns-3 : tie.Need-returns-3
-unfolding renameCheck moveCheck
+unfolding renameCheck
 returns-3 c = rw (← c .before .before .before .before .before .entry-at .ensures) (search lines depth 25)
 
 pub rename-check-spec : {M : Type 1} → statement M

@@ -1,5 +1,4 @@
 -- `room_check` is `roomCheck`: line by line of its table. Assumes nothing.
-use Rattle.checks.specs.Parts.{roomCheck}
 use Rattle.checks.proofs.Lines.{calls}
 use borrow.Author.Needs.{needs}
 use Rattle.checks.proofs.directory.room_check.Statement.{statement}
@@ -9,25 +8,21 @@ is-nonce-taken-requires : tie.Need-is-nonce-taken-requires
 is-nonce-taken-requires c κs = search needs
 
 returns : tie.Need-returns
-unfolding roomCheck
 returns c = search calls depth 25
 
 free-inode-requires : tie.Need-free-inode-requires
 free-inode-requires c κs = search needs
 
 returns-2 : tie.Need-returns-2
-unfolding roomCheck
 returns-2 c = search calls depth 25
 
 free-entry-requires : tie.Need-free-entry-requires
 free-entry-requires c κs = search needs
 
 returns-3 : tie.Need-returns-3
-unfolding roomCheck
 returns-3 c = search calls depth 25
 
 returns-4 : tie.Need-returns-4
-unfolding roomCheck
 returns-4 c = search calls depth 25
 
 pub room-check-spec : {M : Type 1} → statement M

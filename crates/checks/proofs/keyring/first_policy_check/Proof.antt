@@ -1,38 +1,31 @@
 -- `first_policy_check` is `firstPolicyCheck`: each of its lines is guarded by the inode's having no context. Assumes nothing.
-use Rattle.checks.specs.Parts.{firstPolicyCheck}
 use Rattle.checks.proofs.Lines.{guarded}
 use borrow.Author.Needs.{needs}
 use Rattle.checks.proofs.keyring.first_policy_check.Statement.{statement}
 use Rattle.checks.proofs.keyring.first_policy_check.Tie as tie
 
 returns : tie.Need-returns
-unfolding firstPolicyCheck
 returns c = search guarded depth 25
 
 returns-2 : tie.Need-returns-2
-unfolding firstPolicyCheck
 returns-2 c = search guarded depth 25
 
 returns-3 : tie.Need-returns-3
-unfolding firstPolicyCheck
 returns-3 c = search guarded depth 25
 
 has-entries-requires : tie.Need-has-entries-requires
 has-entries-requires c κs = search needs
 
 returns-4 : tie.Need-returns-4
-unfolding firstPolicyCheck
 returns-4 c = search guarded depth 25
 
 is-borne-requires : tie.Need-is-borne-requires
 is-borne-requires c κs = search needs
 
 returns-5 : tie.Need-returns-5
-unfolding firstPolicyCheck
 returns-5 c = search guarded depth 25
 
 returns-6 : tie.Need-returns-6
-unfolding firstPolicyCheck
 returns-6 c = search guarded depth 25
 
 pub first-policy-check-spec : {M : Type 1} → statement M

@@ -1,6 +1,5 @@
 -- `set_policy_check` is `setPolicyCheck`: line by line of its table, on the inode that was looked up and the policy that was read. Assumes nothing.
 use Rattle.volume.specs.Checks.{setPolicyCheck}
-use Rattle.checks.specs.Parts.{isOtherPolicy, firstPolicyCheck}
 use Rattle.checks.proofs.Lines.{lines}
 use borrow.Author.Needs.{needs}
 use Rattle.checks.proofs.keyring.set_policy_check.Statement.{statement}
@@ -30,14 +29,14 @@ is-other-policy-requires : tie.Need-is-other-policy-requires
 is-other-policy-requires c κs = search needs
 
 returns-3 : tie.Need-returns-3
-unfolding setPolicyCheck isOtherPolicy
+unfolding setPolicyCheck
 returns-3 c = rw (← c .before .before .before .before .before .before .before .before .inode-at .ensures, ← c .before .before .before .before .before .read-policy .ensures) (search lines depth 25)
 
 first-policy-check-requires : tie.Need-first-policy-check-requires
 first-policy-check-requires c κs = search needs
 
 returns-4 : tie.Need-returns-4
-unfolding setPolicyCheck isOtherPolicy firstPolicyCheck
+unfolding setPolicyCheck
 returns-4 c = rw (← c .before .before .before .before .before .before .before .before .before .inode-at .ensures, ← c .before .before .before .before .before .before .read-policy .ensures) (search lines depth 25)
 
 pub set-policy-check-spec : {M : Type 1} → statement M

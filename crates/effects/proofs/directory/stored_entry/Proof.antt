@@ -1,7 +1,7 @@
 -- `stored_entry`: the slot of the name as the directory stores it. Assumes nothing.
 use Rattle.fscrypt.specs.Cipher.{fscrypt}
 use mathlib.Core.Path.{ap, _∙_}
-use Rattle.volume.specs.Lookup.{keyNeeded}
+use Rattle.volume.specs.Lookup.{lacksKey}
 use Rattle.effects.proofs.Acting.{entry-stored}
 use borrow.Author.Needs.{needs}
 use Rattle.effects.proofs.directory.stored_entry.Statement.{statement}
@@ -11,7 +11,7 @@ inode-at-requires : tie.Need-inode-at-requires
 inode-at-requires c κs = search needs
 
 stored-name-requires : tie.Need-stored-name-requires
-stored-name-requires c κs = (c .before .before .pre .0, ap (keyNeeded _) (c .inode-at .ensures) ∙ c .before .before .pre .1)
+stored-name-requires c κs = (c .before .before .pre .0, ap (lacksKey _) (c .inode-at .ensures) ∙ c .before .before .pre .1)
 
 new-entry-requires : tie.Need-new-entry-requires
 new-entry-requires c κs = search needs

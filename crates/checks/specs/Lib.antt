@@ -1,2 +1,0 @@
--- The definitions of checks.
-pub mod Parts
