@@ -3,12 +3,19 @@ use volume::EntryNumber;
 use volume::InodeNumber;
 ghost use Rattle.lists.specs.Bytes.{ByteList};
 ghost use Rattle.fscrypt.specs.Cipher.{fscrypt};
+ghost use Rattle.volume.specs.Leaves.{Leaves};
 ghost use Rattle.volume.specs.PolicyClause.{PolicyClause};
 ghost use Rattle.volume.specs.SealedOpens.{SealedOpens};
 ghost use Rattle.volume.specs.Request.{AllTyped, thirteen};
 ghost use Rattle.volume.specs.TwoRuns.{TwoRuns};
 ghost use Rattle.volume.specs.KeyedNames.{EveryRunKeyed};
 ghost use Rattle.requests.specs.Claims.{AlwaysSound, PromiseKept};
+
+// Demand 1: a refusal is one of document 01's table, and changes no byte of the volume nor of a lent buffer; show writes the name's bytes and no others; requests
+// that only ask leave the volume.
+pub fn refusals_alter_nothing()
+    ensures { λ _. ⌜ Leaves fscrypt ⌝ }
+{}
 
 // A fresh volume is sound and its bytes are bytes, and so is the volume after every request of every list.
 pub fn every_volume_is_sound()

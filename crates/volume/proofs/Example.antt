@@ -3,14 +3,14 @@
 use Prim.Native.Nat.{ℕ, _+_, _-_, _%_}
 use mathlib.Core.Path.{_≡_, refl}
 use mathlib.Core.List.{List, [], _∷_, _++_, map}
-use lib.ListN.{getD, replicate}
+use lib.ListN.{length, getD, replicate}
 use Rattle.lists.specs.Bytes.{Bytes, zeros, firstAt, same, hexDigit}
 use Rattle.errno.specs.Refusals.{_⇒_, _>>_}
 use Rattle.policy.specs.Policies.{isPair, isValid, samePolicy, isMasterKeySize, nameKeySize, policyBytes, policyAt, policyCheck, readPolicy}
 use Rattle.fscrypt.specs.Cipher.{Cipher}
 use Rattle.fscrypt.specs.Names.{isDotName, isBadName, nameCheck, rounded, paddedLength, padded, encrypted, beforeNul, isAllNul, paddingCheck, readPadded}
 use Rattle.fscrypt.specs.Encoded.{letter, letters, encoded}
-use Rattle.volume.specs.Volume.{fresh}
+use Rattle.volume.specs.Volume.{fresh, noKey}
 use Rattle.volume.specs.Request.{Request, addKey, removeKey, setPolicy, getPolicy, create, link, rename, exchange, remove, find, show, seal, unseal, Answer, refused, done, created, at, policyIs, shown}
 use Rattle.volume.specs.Lookup.{entryAt, keySlotOf, freeKeySlot, keyOf, keyPresent, lacksKey, freeInode, bearsNonce, nonceHolder, freeEntry, entryNamed, firstChild, firstLink, parentOf, climbFrom, isUnderItself}
 use Rattle.volume.specs.DirectoryNames.{derivedKey, nameKey, stored, readName, shownName, isUnreadable, formIn}
@@ -27,15 +27,20 @@ use Rattle.volume.specs.declared.Form.the-variants.{Plain, Decrypted, En
 unfoldable pub moved : ℕ → Bytes → Bytes
 moved t x = map (λ (b : ℕ). (b + t) % 256) x
 
--- a derived key is moved by the nonce's first byte, and a text by the key's
+-- and back
+unfoldable pub back : ℕ → Bytes → Bytes
+back t x = moved (256 - t % 256) x
+
+-- a derived key is moved by the nonce's first byte, a name by the first byte of a key of 32 bytes, and by more under one of another length, and a block by the first
+-- and the last byte of a key of 64 and by the block's number
 unfoldable pub small : Cipher
 small =
     record {
       derive = λ k x. moved (getD x 0 0) k;
-      encryptName = λ k t. moved (getD k 0 0) t;
-      decryptName = λ k t. moved ((256 - getD k 0 0) % 256) t;
-      seal = λ k n b. moved (getD k 0 0) b;
-      unseal = λ k n b. moved ((256 - getD k 0 0) % 256) b;
+      encryptName = λ k t. moved (getD k 0 0 + length k % 32) t;
+      decryptName = λ k t. back (getD k 0 0 + length k % 32) t;
+      seal = λ k n b. moved (getD k 0 0 + getD k 63 0 + n) b;
+      unseal = λ k n b. back (getD k 0 0 + getD k 63 0 + n) b;
     }
 
 unfoldable pub inode : ℕ → InodeNumber
@@ -128,7 +133,7 @@ answers : map (λ (m : Moment). m .answer) (run small requests)
     ∷ done
     ∷ refused 2
     ∷ []
-unfolding moved small inode entry seen nonce descriptor policy requests runFrom momentOf step settle lent check effect fresh childOf withoutUnheld _⇒_ _>>_ zeros firstAt same isPair isValid samePolicy isMasterKeySize nameKeySize policyBytes policyAt policyCheck readPolicy isDotName isBadName nameCheck rounded paddedLength padded encrypted beforeNul isAllNul paddingCheck readPadded letter letters hexDigit encoded keySlotOf freeKeySlot keyOf keyPresent lacksKey freeInode bearsNonce nonceHolder freeEntry entryNamed firstChild firstLink parentOf climbFrom isUnderItself directoryCheck isPolicyRefused isBadKind isBadKeyLength isNonceNeeded derivedKey nameKey stored readName shownName isUnreadable formIn addKeyCheck removeKeyCheck setPolicyCheck getPolicyCheck removeCheck exchangeCheck blockCheck createCheck linkCheck renameCheck findCheck showCheck
+unfolding moved back small inode entry seen nonce descriptor policy requests runFrom momentOf step settle lent check effect fresh childOf withoutUnheld _⇒_ _>>_ zeros firstAt same isPair isValid samePolicy isMasterKeySize nameKeySize policyBytes policyAt policyCheck readPolicy isDotName isBadName nameCheck rounded paddedLength padded encrypted beforeNul isAllNul paddingCheck readPadded letter letters hexDigit encoded keySlotOf freeKeySlot keyOf keyPresent lacksKey freeInode bearsNonce nonceHolder freeEntry entryNamed firstChild firstLink parentOf climbFrom isUnderItself directoryCheck isPolicyRefused isBadKind isBadKeyLength isNonceNeeded derivedKey nameKey stored readName shownName isUnreadable formIn addKeyCheck removeKeyCheck setPolicyCheck getPolicyCheck removeCheck exchangeCheck blockCheck createCheck linkCheck renameCheck findCheck showCheck
 answers = refl
 
 -- ---- what is written
@@ -139,22 +144,49 @@ writes =
     ∷ create (inode 0) 1 (100 ∷ []) (nonce 0)
     ∷ setPolicy (inode 1) policy (nonce 1)
     ∷ create (inode 1) 2 (97 ∷ []) (nonce 2)
-    ∷ seal (inode 2) 0 (zeros 4096)
-    ∷ unseal (inode 2) 0 (replicate 4096 11)
+    ∷ seal (inode 2) 0 (replicate 4096 1)
+    ∷ seal (inode 2) 5 (replicate 4096 1)
+    ∷ unseal (inode 2) 5 (replicate 4096 99)
+    ∷ seal (inode 1) 0 (replicate 4096 77)
+    ∷ unseal (inode 9) 0 (replicate 4096 77)
+    ∷ show (entry 1) (replicate 255 77)
+    ∷ show (entry 9) (replicate 255 77)
+    ∷ show (entry 1) (replicate 254 77)
     ∷ []
 
--- the answer, the buffer's first byte and the first byte of entry 1's stored name
-written : Moment → Answer × ℕ × ℕ
-written m = (m .answer, getD (m .buffer) 0 0, getD (entryAt (m .volume) (entry 1) .name) 0 0)
+-- the answer, the buffer's first two bytes and the first byte of entry 1's stored name
+written : Moment → Answer × ℕ × ℕ × ℕ
+written m = (m .answer, getD (m .buffer) 0 0, getD (m .buffer) 1 0, getD (entryAt (m .volume) (entry 1) .name) 0 0)
 
--- the name is moved by 9 and its directory's nonce, the block by 9 and the nonce of its own inode: a key that was not derived, or the other one's, would show
+-- The name is moved by 9 and its directory's nonce, the block by 9, twice the nonce of its own inode and the block's number: a key that was not derived, or the
+-- other one's, would show. What was refused leaves the buffer, and show leaves what stands past the name.
 bytes : map written (run small writes)
-    ≡ (done, 9, 0)
-    ∷ (created (inode 1) (entry 0), 0, 0)
-    ∷ (done, 0, 0)
-    ∷ (created (inode 2) (entry 1), 0, 107)
-    ∷ (done, 11, 107)
-    ∷ (done, 0, 107)
+    ≡ (done, 9, 0, 0)
+    ∷ (created (inode 1) (entry 0), 0, 0, 0)
+    ∷ (done, 0, 0, 0)
+    ∷ (created (inode 2) (entry 1), 0, 0, 107)
+    ∷ (done, 14, 14, 107)
+    ∷ (done, 19, 19, 107)
+    ∷ (done, 81, 81, 107)
+    ∷ (refused 22, 77, 77, 107)
+    ∷ (refused 2, 77, 77, 107)
+    ∷ (seen 1 2 2 Decrypted 1, 97, 77, 107)
+    ∷ (refused 2, 77, 77, 107)
+    ∷ (refused 34, 77, 77, 107)
     ∷ []
-unfolding moved small inode entry seen nonce descriptor policy writes written runFrom momentOf step settle lent check effect fresh childOf withoutUnheld _⇒_ _>>_ zeros firstAt same isPair isValid samePolicy isMasterKeySize nameKeySize policyBytes policyAt policyCheck readPolicy isDotName isBadName nameCheck rounded paddedLength padded encrypted beforeNul isAllNul paddingCheck readPadded letter letters hexDigit encoded keySlotOf freeKeySlot keyOf keyPresent lacksKey freeInode bearsNonce nonceHolder freeEntry entryNamed firstChild firstLink parentOf climbFrom isUnderItself directoryCheck isPolicyRefused isBadKind isBadKeyLength isNonceNeeded derivedKey nameKey stored readName shownName isUnreadable formIn addKeyCheck removeKeyCheck setPolicyCheck getPolicyCheck removeCheck exchangeCheck blockCheck createCheck linkCheck renameCheck findCheck showCheck
+unfolding moved back small inode entry seen nonce descriptor policy writes written runFrom momentOf step settle lent check effect fresh childOf withoutUnheld _⇒_ _>>_ zeros firstAt same isPair isValid samePolicy isMasterKeySize nameKeySize policyBytes policyAt policyCheck readPolicy isDotName isBadName nameCheck rounded paddedLength padded encrypted beforeNul isAllNul paddingCheck readPadded letter letters hexDigit encoded keySlotOf freeKeySlot keyOf keyPresent lacksKey freeInode bearsNonce nonceHolder freeEntry entryNamed firstChild firstLink parentOf climbFrom isUnderItself directoryCheck isPolicyRefused isBadKind isBadKeyLength isNonceNeeded derivedKey nameKey stored readName shownName isUnreadable formIn addKeyCheck removeKeyCheck setPolicyCheck getPolicyCheck removeCheck exchangeCheck blockCheck createCheck linkCheck renameCheck findCheck showCheck
 bytes = refl
+
+-- ---- where keys stand
+
+keys : List Request
+keys = addKey (7 ∷ zeros 7) (zeros 16) ∷ addKey (8 ∷ zeros 7) (zeros 16) ∷ removeKey (7 ∷ zeros 7) ∷ addKey (9 ∷ zeros 7) (zeros 16) ∷ []
+
+-- the first bytes of the descriptors in the slots 0 and 1
+slots : Moment → ℕ × ℕ
+slots m = (getD (getD (m .volume .keys) 0 noKey .descriptor) 0 0, getD (getD (m .volume .keys) 1 noKey .descriptor) 0 0)
+
+-- "A new key .. takes the lowest free slot"
+lowest : map slots (run small keys) ≡ (7, 0) ∷ (7, 8) ∷ (0, 8) ∷ (9, 8) ∷ []
+unfolding moved back small inode entry seen nonce descriptor policy keys slots runFrom momentOf step settle lent check effect fresh childOf withoutUnheld _⇒_ _>>_ zeros firstAt same isPair isValid samePolicy isMasterKeySize nameKeySize policyBytes policyAt policyCheck readPolicy isDotName isBadName nameCheck rounded paddedLength padded encrypted beforeNul isAllNul paddingCheck readPadded letter letters hexDigit encoded keySlotOf freeKeySlot keyOf keyPresent lacksKey freeInode bearsNonce nonceHolder freeEntry entryNamed firstChild firstLink parentOf climbFrom isUnderItself directoryCheck isPolicyRefused isBadKind isBadKeyLength isNonceNeeded derivedKey nameKey stored readName shownName isUnreadable formIn addKeyCheck removeKeyCheck setPolicyCheck getPolicyCheck removeCheck exchangeCheck blockCheck createCheck linkCheck renameCheck findCheck showCheck
+lowest = refl

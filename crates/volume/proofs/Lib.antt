@@ -19,6 +19,7 @@ pub mod PolicyClause
 pub mod Bytewise
 pub mod SealedOpens
 pub mod ShownApart
+pub mod Leaves
 -- names and keys in every run
 mod NamesSince
 pub mod KeyedNames

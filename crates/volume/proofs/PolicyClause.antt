@@ -209,30 +209,32 @@ module _ (C : Cipher) (v : Volume) where
       let d = peel v [] o _ ENOKEY _ (omega arith) (c .1) in
       record { one = a .0; other = b .0; one-key = c .0; other-key = d .0 }
 
-pub policy-clause : (C : Cipher) → Lawful C → PolicyClause C
-policy-clause C law = record {
-  by-link = λ v. link-exactly C v;
-  by-rename = λ v. rename-exactly C v;
-  by-exchange = λ v. exchange-exactly C v;
-  link-ready = λ v. link-ready C v;
-  rename-ready = λ v. rename-ready C v;
-  exchange-ready = λ v. exchange-ready C v;
-  at-no-time = at-no-time C law;
-}
-
 -- ---- on a sound volume a move within one directory is never a policy refusal: the directory gains nothing
 
 module _ (C : Cipher) (v : Volume) (s : Sound v) where
-  pub rename-within : (e : EntryNumber) (p : InodeNumber) (n : Bytes) → RenameReady v e p n → entryAt v e .parent ≡ p
-      → (step C v (rename e p n)) .answer ≢ refused (number policyRefusal)
+  rename-within : (e : EntryNumber) (p : InodeNumber) (n : Bytes) → RenameReady v e p n → entryAt v e .parent ≡ p
+      → GivesRefusal C v (rename e p n) → ⊥
   rename-within e p n h q r =
       let w = rename-exactly C v e p n h .0 r in
       w .lacks (subst (λ (d : InodeNumber). MayHold (inodeAt v d) (nodeOf v (e .0))) q (s .policies (e .0) (h .entry)) (w .is-encrypted) (w .not-special))
 
-  pub exchange-within : (a b : EntryNumber) → ExchangeReady v a b → entryAt v a .parent ≡ entryAt v b .parent
-      → (step C v (exchange a b)) .answer ≢ refused (number policyRefusal)
+  exchange-within : (a b : EntryNumber) → ExchangeReady v a b → entryAt v a .parent ≡ entryAt v b .parent
+      → GivesRefusal C v (exchange a b) → ⊥
   exchange-within a b h q r = neither (holds a b (h .other) (sym q)) (holds b a (h .one) q) (exchange-exactly C v a b h .0 r)
     where
       holds : (c d : EntryNumber) → Used v (d .0) → entryAt v d .parent ≡ entryAt v c .parent → WouldLack (dirOf v (c .0)) (nodeOf v (d .0)) → ⊥
       holds c d u p w =
           w .lacks (subst (λ (m : InodeNumber). MayHold (inodeAt v m) (nodeOf v (d .0))) p (s .policies (d .0) u) (w .is-encrypted) (w .not-special))
+
+pub policy-clause : (C : Cipher) → Lawful C → PolicyClause C
+policy-clause C law = record {
+  by-link = λ v. link-exactly C v;
+  by-rename = λ v. rename-exactly C v;
+  by-exchange = λ v. exchange-exactly C v;
+  rename-within = λ v s. rename-within C v s;
+  exchange-within = λ v s. exchange-within C v s;
+  link-ready = λ v. link-ready C v;
+  rename-ready = λ v. rename-ready C v;
+  exchange-ready = λ v. exchange-ready C v;
+  at-no-time = at-no-time C law;
+}

@@ -7,7 +7,7 @@ use mathlib.Core.Logic.{_≢_}
 use mathlib.Core.Bool.{Bool, true, false, cond, not, _&&_, false≢true}
 use mathlib.Core.List.{List, _++_}
 use lib.ListN.{length, getD, take, drop}
-use lib.Dec.{ltb}
+use lib.Dec.{eqb, ltb}
 use lib.Seq.{getD-set-same, getD-set-other, take-append-seam}
 use borrow.Author.Tests.{le-ltb}
 use Rattle.lists.specs.Bytes.{Bytes, ByteList}
@@ -31,7 +31,7 @@ use Rattle.volume.specs.DirectoryNames.{derivedKey, nameKey, stored, rea
 use Rattle.volume.specs.Checks.{blockCheck, showCheck, createCheck, linkCheck, renameCheck}
 use Rattle.volume.specs.Step.{lent, check, effect, settle, step, childOf}
 use Rattle.volume.specs.Sound.{Sound, nodeAt, dirOf}
-use Rattle.volume.specs.SealedOpens.{Bytewise, ShowsAs, SameKey, SealedOpens}
+use Rattle.volume.specs.SealedOpens.{Bytewise, ShowsAs, SameKey, SameName, SealedOpens}
 use Rattle.volume.specs.declared.InodeNumber.{InodeNumber}
 use Rattle.volume.specs.declared.EntryNumber.{EntryNumber}
 use Rattle.volume.specs.declared.Key.{Key}
@@ -313,21 +313,24 @@ module _ (C : Cipher) (law : Lawful C) where
 
 -- ---- names: on a later volume
 
-module _ (C : Cipher) (v w : Volume) (e : EntryNumber) (qx : entryAt w e ≡ entryAt v e) (qd : dirOf w (e .0) ≡ dirOf v (e .0)) (k : SameKey v w (dirOf v (e .0))) where
+module _ (C : Cipher) (v w : Volume) (e : EntryNumber) (qx : SameName v w e) (qd : dirOf w (e .0) ≡ dirOf v (e .0)) (k : SameKey v w (dirOf v (e .0))) where
   abbrev dir : Inode
   dir = dirOf v (e .0)
 
+  same-name : nameOf (entryAt w e) ≡ nameOf (entryAt v e)
+  same-name = ap₂ take (qx .0) (qx .1)
+
   unreadable-later : isUnreadable C w (dirOf w (e .0)) (nameOf (entryAt w e)) ≡ isUnreadable C v dir (nameOf (entryAt v e))
   unreadable-later =
-      ap₂ (λ (d : Inode) (x : Entry). isUnreadable C w d (nameOf x)) qd qx ∙ unreadable-same C v w dir k (nameOf (entryAt v e))
+      ap₂ (isUnreadable C w) qd same-name ∙ unreadable-same C v w dir k (nameOf (entryAt v e))
 
   shown-later : shownName C w (dirOf w (e .0)) e (nameOf (entryAt w e)) ≡ shownName C v dir e (nameOf (entryAt v e))
-  shown-later = ap₂ (λ (d : Inode) (x : Entry). shownName C w d e (nameOf x)) qd qx ∙ shown-same C v w dir k e (nameOf (entryAt v e))
+  shown-later = ap₂ (λ (d : Inode) (s : Bytes). shownName C w d e s) qd same-name ∙ shown-same C v w dir k e (nameOf (entryAt v e))
 
   check-later : (n : ℕ) → showCheck C w e n ≡ showCheck C v e n
   unfolding showCheck
   check-later n =
-      ap₂ (λ (a b : Bool). _>>_ (ltb n 255 ⇒ ERANGE) (_>>_ (a ⇒ ENOENT) (_>>_ (b ⇒ EUCLEAN) Fine))) (ap isVacant qx) unreadable-later
+      ap₂ (λ (a b : Bool). _>>_ (ltb n 255 ⇒ ERANGE) (_>>_ (a ⇒ ENOENT) (_>>_ (b ⇒ EUCLEAN) Fine))) (ap (λ (n : ℕ). eqb n 0) (qx .0)) unreadable-later
 
   later-shows : (n : Bytes) → ShowsAs C v e n → ShowsAs C w e n
   unfolding check effect

@@ -5,6 +5,7 @@ pub mod Lookup
 pub mod DirectoryNames
 pub mod Checks
 pub mod Step
+pub mod Leaves
 pub mod Run
 pub mod Sound
 pub mod PolicyClause

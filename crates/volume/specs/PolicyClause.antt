@@ -17,7 +17,7 @@ use Rattle.volume.specs.Lookup.{lacksKey, inodeAt, isFree, isDirectory, 
 use Rattle.volume.specs.Checks.{directoryCheck}
 use Rattle.volume.specs.Step.{step}
 use Rattle.volume.specs.Run.{Moment, run}
-use Rattle.volume.specs.Sound.{BearsPolicy, Used, dirOf, nodeOf}
+use Rattle.volume.specs.Sound.{BearsPolicy, Used, dirOf, nodeOf, Sound}
 use Rattle.volume.specs.declared.InodeNumber.{InodeNumber}
 use Rattle.volume.specs.declared.EntryNumber.{EntryNumber}
 use Rattle.volume.specs.declared.Inode.{Inode}
@@ -68,6 +68,9 @@ pub record PolicyClause (C : Cipher) : Type 0 where
   -- each of the two directories would gain the other's inode
   pub by-exchange : (v : Volume) (a b : EntryNumber) → ExchangeReady v a b
       → GivesRefusal C v (exchange a b) ↔ (WouldLack (dirOf v (a .0)) (nodeOf v (b .0)) ⊎ WouldLack (dirOf v (b .0)) (nodeOf v (a .0)))
+  -- a move within a directory gains it nothing, and is not refused so
+  pub rename-within : (v : Volume) → Sound v → (e : EntryNumber) (p : InodeNumber) (n : Bytes) → RenameReady v e p n → entryAt v e .parent ≡ p → GivesRefusal C v (rename e p n) → ⊥
+  pub exchange-within : (v : Volume) → Sound v → (a b : EntryNumber) → ExchangeReady v a b → entryAt v a .parent ≡ entryAt v b .parent → GivesRefusal C v (exchange a b) → ⊥
   -- and the earlier checks passed where it is given; linking a directory has the same number
   pub link-ready : (v : Volume) (i p : InodeNumber) (n : Bytes) → GivesRefusal C v (link i p n) → isDirectory (inodeAt v i) ≡ false → LinkReady v i p n
   pub rename-ready : (v : Volume) (e : EntryNumber) (p : InodeNumber) (n : Bytes) → GivesRefusal C v (rename e p n) → RenameReady v e p n

@@ -1,5 +1,5 @@
 -- Demand 2: "With the same key, what was encrypted decrypts to what it was." A block that was sealed is opened as it was, and the name that a create, link or
--- rename gave is the one that show answers, at once and on any later volume that has the same entry, directory and key. Assumes nothing.
+-- rename gave is the one that show answers, at once and on any later volume in which the entry has the same stored name, directory and key. Assumes nothing.
 use Prim.Native.Nat.{ℕ, _≤_}
 use mathlib.Core.Path.{_≡_}
 use mathlib.Core.Logic.{_≢_}
@@ -32,6 +32,10 @@ ShowsAs C v e n =
 abbrev pub SameKey : Volume → Volume → Inode → Type 0
 SameKey v w node = keyOf w (descriptorOf node) ≡ keyOf v (descriptorOf node)
 
+-- the entry has the same stored name in both, of whatever inode ("Exchange doesn't change it")
+abbrev pub SameName : Volume → Volume → EntryNumber → Type 0
+SameName v w e = ((entryAt w e) .len ≡ (entryAt v e) .len) × ((entryAt w e) .name ≡ (entryAt v e) .name)
+
 pub record SealedOpens (C : Cipher) : Type 0 where
   pub blocks : (v : Volume) → Bytewise v → (i : InodeNumber) (number : ℕ) (b : Bytes) → ByteList b → (step C v (seal i number b)) .answer ≡ done
       → step C ((step C v (seal i number b)) .volume) (unseal i number ((step C v (seal i number b)) .buffer)) ≡ outcome done b v
@@ -43,5 +47,5 @@ pub record SealedOpens (C : Cipher) : Type 0 where
       → (e : EntryNumber) → (step C v (link i p n)) .answer ≡ at e → ShowsAs C ((step C v (link i p n)) .volume) e n
   pub renamed-names : (v : Volume) → Bytewise v → (e : EntryNumber) (p : InodeNumber) (n : Bytes) → Typed (rename e p n)
       → (step C v (rename e p n)) .answer ≡ done → ShowsAs C ((step C v (rename e p n)) .volume) e n
-  pub later-names : (v w : Volume) (e : EntryNumber) (n : Bytes) → entryAt w e ≡ entryAt v e → dirOf w (e .0) ≡ dirOf v (e .0) → SameKey v w (dirOf v (e .0))
+  pub later-names : (v w : Volume) (e : EntryNumber) (n : Bytes) → SameName v w e → dirOf w (e .0) ≡ dirOf v (e .0) → SameKey v w (dirOf v (e .0))
       → ShowsAs C v e n → ShowsAs C w e n

@@ -1,0 +1,120 @@
+-- What a request leaves as it was: by cases of its check, a refusal settles to what was there, and the effects of show, seal, open, find and get policy keep the
+-- volume; a name laid over a buffer leaves what stands past it. Assumes nothing.
+use Prim.Native.Nat.{ℕ}
+use mathlib.Core.Path.{_≡_, refl, sym, _∙_, ap}
+use mathlib.Core.Logic.{_≢_}
+use mathlib.Core.Bool.{Bool, true, false, true≢false}
+use mathlib.Core.List.{_++_}
+use lib.ListN.{length, drop}
+use lib.Seq.{drop-append-seam}
+use Rattle.lists.specs.Bytes.{Bytes}
+use Rattle.errno.specs.Refusals.{number}
+use Rattle.errno.specs.declared.Errno.{Errno}
+use Rattle.errno.specs.declared.Checked.{Checked}
+use Rattle.errno.specs.declared.Checked.the-variants.{Fine, Refused}
+use Rattle.fscrypt.specs.Cipher.{Cipher}
+use Rattle.volume.specs.Volume.{nameOf}
+use Rattle.volume.specs.Request.{Request, addKey, removeKey, setPolicy, getPolicy, create, link, rename, exchange, remove, find, show, seal, unseal, Answer, refused, done, created, at, policyIs, shown, Outcome, outcome}
+use Rattle.volume.specs.Lookup.{inodeAt, entryAt}
+use Rattle.volume.specs.DirectoryNames.{shownName}
+use Rattle.volume.specs.Step.{lent, check, effect, settle, step}
+use Rattle.volume.specs.Leaves.{Refuses, Leaves}
+use Rattle.volume.specs.declared.EntryNumber.{EntryNumber}
+use Rattle.volume.specs.declared.ShownEntry.{ShownEntry}
+use Rattle.volume.specs.declared.Volume.{Volume}
+use Rattle.volume.proofs.SealedOpens.{was-done}
+
+number-of : {m n : ℕ} → refused m ≡ refused n → m ≡ n
+number-of q = cc
+
+-- an effect that is itself no refusal is refused by its check alone
+module _ (v : Volume) (b : Bytes) (o : Outcome) (n : ℕ) where
+  settle-numbered : ((m : ℕ) → o .answer ≡ refused m → ⊥) → (k : Checked) → (settle v b k o) .answer ≡ refused n → (e : Errno) × (n ≡ number e)
+  unfolding settle
+  settle-numbered never Fine h = absurd (never n h)
+  settle-numbered never (Refused e) h = (e, sym (number-of h))
+
+  settle-refused : ((m : ℕ) → o .answer ≡ refused m → ⊥) → (k : Checked) → (settle v b k o) .answer ≡ refused n → settle v b k o ≡ outcome (refused n) b v
+  unfolding settle
+  settle-refused never Fine h = absurd (never n h)
+  settle-refused never (Refused e) h = ap (λ (m : ℕ). outcome (refused m) b v) (number-of h)
+
+  -- the volume stays where the effect keeps it
+  settle-volume : o .volume ≡ v → (k : Checked) → (settle v b k o) .volume ≡ v
+  unfolding settle
+  settle-volume e Fine = e
+  settle-volume e (Refused f) = refl
+
+abbrev isRefusal : Answer → Bool
+isRefusal (refused n) = true
+isRefusal done = false
+isRefusal (created i e) = false
+isRefusal (at e) = false
+isRefusal (policyIs p) = false
+isRefusal (shown s) = false
+
+entry-of : {s t : ShownEntry} → shown s ≡ shown t → s .len ≡ t .len
+entry-of q = cc
+
+module _ (C : Cipher) (v : Volume) where
+  effect-is : (r : Request) → isRefusal ((effect C v r) .answer) ≡ false
+  unfolding effect
+  effect-is (addKey d k) = refl
+  effect-is (removeKey d) = refl
+  effect-is (setPolicy i p x) = refl
+  effect-is (getPolicy i) = refl
+  effect-is (create p kind n x) = refl
+  effect-is (link i p n) = refl
+  effect-is (rename e p n) = refl
+  effect-is (exchange a b) = refl
+  effect-is (remove e) = refl
+  effect-is (find p n) = refl
+  effect-is (show e b) = refl
+  effect-is (seal i k b) = refl
+  effect-is (unseal i k b) = refl
+
+  -- no effect answers a refusal
+  effect-answers : (r : Request) (m : ℕ) → (effect C v r) .answer ≡ refused m → ⊥
+  effect-answers r m h = true≢false (sym (ap isRefusal h) ∙ effect-is r)
+
+  numbered : (r : Request) (n : ℕ) → Refuses C v r n → (e : Errno) × (n ≡ number e)
+  unfolding step
+  numbered r n h = settle-numbered v (lent r) (effect C v r) n (effect-answers r) (check C v r) h
+
+  refused-all : (r : Request) (n : ℕ) → Refuses C v r n → step C v r ≡ outcome (refused n) (lent r) v
+  unfolding step
+  refused-all r n h = settle-refused v (lent r) (effect C v r) n (effect-answers r) (check C v r) h
+
+  keeps : (r : Request) → (effect C v r) .volume ≡ v → (step C v r) .volume ≡ v
+  unfolding step
+  keeps r e = settle-volume v (lent r) (effect C v r) 0 e (check C v r)
+
+  -- a buffer with a name laid over its start, past the name
+  past-the-name : (e : EntryNumber) (b : Bytes) (s : ShownEntry) → (step C v (show e b)) .answer ≡ shown s
+      → drop (s .len) ((step C v (show e b)) .buffer) ≡ drop (s .len) b
+  unfolding effect
+  past-the-name e b s h =
+      let never : (m : ℕ) → refused m ≢ shown s = λ m q. true≢false (ap isRefusal q) in
+      let d = was-done C v (show e b) (shown s) never h in
+      let n = shownName C v (inodeAt v (entryAt v e .parent)) e (nameOf (entryAt v e)) in
+      let l : length n ≡ s .len = entry-of (ap (λ (o : Outcome). o .answer) (sym d) ∙ h) in
+      ap (λ (o : Outcome). drop (s .len) (o .buffer)) d
+      ∙ ap (λ (k : ℕ). drop k (n ++ drop (length n) b)) (sym l)
+      ∙ drop-append-seam n (drop (length n) b)
+      ∙ ap (λ (k : ℕ). drop k b) l
+
+pub leaves : (C : Cipher) → Leaves C
+unfolding lent effect
+leaves C = record {
+  numbered = λ v. numbered C v;
+  refused-volume = λ v r n h. ap (λ (o : Outcome). o .volume) (refused-all C v r n h);
+  refused-show = λ v e b n h. refused-all C v (show e b) n h;
+  refused-seal = λ v i k b n h. refused-all C v (seal i k b) n h;
+  refused-open = λ v i k b n h. refused-all C v (unseal i k b) n h;
+  past-the-name = λ v. past-the-name C v;
+  asking = λ v i. keeps C v (getPolicy i) refl;
+  finding = λ v p n. keeps C v (find p n) refl;
+  showing = λ v e b. keeps C v (show e b) refl;
+  sealing = λ v i k b. keeps C v (seal i k b) refl;
+  opening = λ v i k b. keeps C v (unseal i k b) refl;
+}
