@@ -5,3 +5,4 @@ pub mod Digits
 pub mod Hex
 pub mod Lines
 pub mod Taking
+pub mod Keeping

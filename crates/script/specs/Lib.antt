@@ -4,3 +4,4 @@ pub mod Words
 pub mod Numbers
 pub mod Strings
 pub mod Commands
+pub mod Cutting
