@@ -2,3 +2,5 @@
 pub mod Texts
 pub mod Saying
 pub mod Answering
+pub mod Skipping
+pub mod Feeding

@@ -1,13 +1,14 @@
 // A script read from a file descriptor, line by line; each answer is written to standard output as soon as its line has come.
+use crate::Response;
 use crate::lines;
-use bytes::scan;
 use libc::STDOUT_FILENO;
-use script::words;
+use script::cutting;
 use volume::Volume;
 ghost use mathlib.Core.Path.{_≡_};
 ghost use Prim.Native.Nat.{_+_, _*_, _≤_, _<_};
 ghost use lib.ListN.{length, take};
-ghost use Rattle.session.specs.Lines.{answered};
+ghost use Rattle.script.specs.Cutting.{lineSize};
+ghost use Rattle.session.specs.Input.{Begun, Feeds, Says, Ends};
 ghost use Rattle.io.specs.Counts.{Counts};
 
 // A line of 131,072 bytes, its carriage return, and one byte more, so that a line that was cut is over the limit.
@@ -15,10 +16,18 @@ const LINE_ROOM: usize = 131074;
 
 const OUT_ROOM: usize = 263200;
 
-// How far the input has been read: the volume, and how many bytes of the next line have come.
+// How far the input has been read: the volume, and how many bytes of the next line the buffer holds.
 struct Progress {
     volume: Volume,
     used: usize,
+}
+
+// The same after a part of a chunk, with how many bytes that took, and how many bytes of the output buffer it says.
+struct Turn {
+    volume: Volume,
+    used: usize,
+    taken: usize,
+    len: usize,
 }
 
 fn line_room() -> [u8; LINE_ROOM]
@@ -33,80 +42,76 @@ fn out_room() -> [u8; OUT_ROOM]
     [0u8; OUT_ROOM]
 }
 
-// Answers the line that the first `used` bytes are, and returns the volume after it.
-fn finish(v: Volume, line: &[u8], used: usize, beside: &mut [u8], out: &mut [u8]) -> Volume
-    requires { ⌜ (used ≤ length (now line)) × (length (now line) ≤ length (now beside)) × (1000 + 2 * length (now beside) ≤ length (now out)) ⌝ }
-    ensures { λ r. ⌜ r ≡ answered v (take used (now (line .entry))) .volume ⌝ }
+// Answers the line that the first `used` bytes are kept of.
+fn answer_kept(v: Volume, line: &[u8], used: usize, beside: &mut [u8], out: &mut [u8]) -> Response
+    requires { ⌜ (used ≤ length (now line)) × (131074 ≤ length (now line)) × (length (now line) ≤ length (now beside)) × (1000 + 2 * length (now beside) ≤ length (now out)) ⌝ }
+    ensures { λ r. ⌜ (r .len ≤ length (now (out .entry))) × Ends (now (line .entry)) v used (now (out .exit)) r ⌝ }
 {
-    let r = lines::answer_line(v, &line[..used], beside, out);
-    let n = r.len;
-    io::write_all(STDOUT_FILENO, &out[..n]);
-    r.volume
+    lines::answer_line(v, &line[..used], beside, out)
 }
 
-// Adds a byte to a line. Where the line has no room left, its last byte is replaced while that is a blank: then the cut line still tells whether a
-// word comes, and whether that is a comment. A carriage return there is not the line's last byte, so it becomes a byte of a word.
-fn add_byte(line: &mut [u8], used: usize, b: u8) -> usize
-    requires { ⌜ (used ≤ length (now line)) × (0 < length (now line)) ⌝ }
-    ensures { λ r. ⌜ r ≤ length (now (line .entry)) ⌝ }
+// Takes bytes up to the end of a line, and answers the line where it has come.
+fn next_answer(
+    p: Progress,
+    line: &mut [u8],
+    bytes: &[u8],
+    beside: &mut [u8],
+    out: &mut [u8],
+) -> Turn
+    requires { ⌜ (p .used ≤ length (now line)) × (131074 ≤ length (now line)) × (length (now line) ≤ length (now beside)) × (1000 + 2 * length (now beside) ≤ length (now out)) ⌝ }
+    ensures { λ r. ⌜ (r .used ≤ length (now (line .entry))) × (r .taken ≡ lineSize (now (bytes .entry))) × (r .len ≤ length (now (out .entry))) × Feeds (now (line .entry)) (p .volume) (p .used) (take (r .taken) (now (bytes .entry))) (now (line .exit)) (r .volume) (r .used) × Says (now (line .entry)) (p .volume) (p .used) (take (r .taken) (now (bytes .entry))) (take (r .len) (now (out .exit))) ⌝ }
 {
-    if used < line.len() {
-        line[used] = b;
-        return used + 1;
+    let v = p.volume;
+    let cut = cutting::take_line(line, p.used, bytes);
+    if !cut.ended {
+        return Turn {
+            volume: v,
+            used: cut.used,
+            taken: cut.taken,
+            len: 0,
+        };
     }
-    let last = line.len() - 1;
-    let end = line[last];
-    if words::is_blank(end) {
-        line[last] = b;
-        return used;
+    let r = answer_kept(v, line, cut.used, beside, out);
+    let w = r.volume;
+    Turn {
+        volume: w,
+        used: 0,
+        taken: cut.taken,
+        len: r.len,
     }
-    if end == 13 {
-        line[last] = b'.';
-    }
-    used
 }
 
-fn add_bytes(line: &mut [u8], used: usize, run: &[u8]) -> usize
-    requires { ⌜ (used ≤ length (now line)) × (0 < length (now line)) ⌝ }
-    ensures { λ r. ⌜ r ≤ length (now (line .entry)) ⌝ }
+// Writes what is said.
+fn say(out: &[u8], len: usize)
+    requires { ⌜ len ≤ length (now out) ⌝ }
 {
-    let mut n = used;
-    let mut i: usize = 0;
-    while i < run.len() {
-        n = add_byte(line, n, run[i]);
-        i += 1;
-    }
-    n
+    io::write_all(STDOUT_FILENO, &out[..len]);
 }
 
 // Answers each line that ends in a chunk of the input.
 fn take_chunk(
-    p: Progress,
+    start: Progress,
     line: &mut [u8],
     chunk: &[u8],
     beside: &mut [u8],
     out: &mut [u8],
 ) -> Progress
-    requires { ⌜ (p .used ≤ length (now line)) × (0 < length (now line)) × (length (now line) ≤ length (now beside)) × (1000 + 2 * length (now beside) ≤ length (now out)) ⌝ }
-    ensures { λ r. ⌜ r .used ≤ length (now (line .entry)) ⌝ }
+    requires { ⌜ (start .used ≤ length (now line)) × (131074 ≤ length (now line)) × (length (now line) ≤ length (now beside)) × (1000 + 2 * length (now beside) ≤ length (now out)) ⌝ }
+    ensures { λ r. ⌜ (r .used ≤ length (now (line .entry))) × Feeds (now (line .entry)) (start .volume) (start .used) (now (chunk .entry)) (now (line .exit)) (r .volume) (r .used) ⌝ }
 {
-    let mut v = p.volume;
-    let mut used = p.used;
+    let mut p = start;
     let mut at: usize = 0;
     while at < chunk.len() {
-        let end = scan::find(chunk, at, chunk.len(), b'\n');
-        used = add_bytes(line, used, &chunk[at..end]);
-        at = end;
-        if end < chunk.len() {
-            v = finish(v, line, used, beside, out);
-            used = 0;
-            at = end + 1;
-        }
+        let t = next_answer(p, line, &chunk[at..], beside, out);
+        say(out, t.len);
+        let v = t.volume;
+        p = Progress {
+            volume: v,
+            used: t.used,
+        };
+        at += t.taken;
     }
-    Progress {
-        volume: v,
-        used: used,
-    }
+    p
 }
 
 // Reads once, and returns how many bytes came: none at the end of the input, or where the read fails.
@@ -118,7 +123,7 @@ fn read_some(fd: i32, chunk: &mut [u8]) -> usize
 }
 
 // Answers the lines that newlines end. A proved loop has to end, and nothing says that the input does: so the loop counts its turns down, from a number
-// that no run uses up.
+// that no run uses up. Whatever came, the session is one that began with a fresh volume.
 fn take_all(
     fd: i32,
     line: &mut [u8],
@@ -126,8 +131,8 @@ fn take_all(
     beside: &mut [u8],
     out: &mut [u8],
 ) -> Progress
-    requires { ⌜ (0 < length (now line)) × (length (now line) ≤ length (now beside)) × (1000 + 2 * length (now beside) ≤ length (now out)) ⌝ }
-    ensures { λ r. ⌜ r .used ≤ length (now (line .entry)) ⌝ }
+    requires { ⌜ (131074 ≤ length (now line)) × (length (now line) ≤ length (now beside)) × (1000 + 2 * length (now beside) ≤ length (now out)) ⌝ }
+    ensures { λ r. ⌜ (r .used ≤ length (now (line .entry))) × Begun (now (line .exit)) (r .volume) (r .used) ⌝ }
 {
     let mut p = Progress {
         volume: requests::fresh(),
@@ -152,8 +157,7 @@ pub fn run(fd: i32) {
     let mut beside = line_room();
     let mut out = out_room();
     let p = take_all(fd, &mut line, &mut chunk, &mut beside, &mut out);
-    let used = p.used;
-    if 0 < used {
-        finish(p.volume, &line, used, &mut beside, &mut out);
-    }
+    let v = p.volume;
+    let r = answer_kept(v, &line, p.used, &mut beside, &mut out);
+    say(&out, r.len);
 }

@@ -1,4 +1,4 @@
-// A session of the request script: a line's answer is what specs/Lines.antt says, its text and the volume after it.
+// A session of the request script: a line's answer is what specs/Lines.antt says, its text and the volume after it, and an input's what specs/Input.antt says.
 mod answers;
 mod calls;
 mod input;

@@ -1,52 +1,64 @@
--- `take_chunk`: the buffers keep their lengths, and each turn gets past a byte. Assumes nothing.
-use Prim.Native.Nat.{_+_, _*_, _≤_, _<_, _-_}
-use mathlib.Core.Path.{_≡_}
-use lib.ListN.{length}
+-- `take_chunk`: the first `at` bytes of the chunk have been taken, and each turn gets past a byte. Assumes nothing.
+use Prim.Native.Nat.{_+_, _*_, _≤_, _-_}
+use native.Mathlib.Omega.{arith}
+use mathlib.Core.Path.{_≡_, refl}
+use lib.ListN.{length, take, drop, length-take, length-drop}
+use denote.Ref.{now}
+use Rattle.session.specs.Input.{Feeds}
+use Rattle.session.proofs.Feeding.{feeds-none, feeds-more, feeds-all}
 use borrow.Author.Needs.{needs}
 use Rattle.session.proofs.input.take_chunk.Statement.{statement}
 use Rattle.session.proofs.input.take_chunk.Tie as tie
 
 abbrev Inv-loop : tie.InvT-loop
-Inv-loop line₀ chunk beside₀ out₀ v₀ used₀ at₀ line beside out v used at = (at ≤ length chunk) × (used ≤ length line) × (0 < length line) × (length line ≡ length line₀) × (length beside ≡ length beside₀) × (length out ≡ length out₀) × (length line ≤ length beside) × (1000 + 2 * length beside ≤ length out)
+Inv-loop line₀ chunk beside₀ out₀ p₀ at₀ line beside out p at = (at ≤ length chunk) × (p .used ≤ length line) × (131074 ≤ length line) × (length line ≡ length line₀) × (length beside ≡ length beside₀) × (length out ≡ length out₀) × (length line ≤ length beside) × (1000 + 2 * length beside ≤ length out) × Feeds line₀ (p₀ .volume) (p₀ .used) (take at chunk) line (p .volume) (p .used)
 
 abbrev μ-loop : tie.MeasureT-loop
-μ-loop line₀ chunk beside₀ out₀ v₀ used₀ at₀ line beside out v used at = length chunk - at
+μ-loop line₀ chunk beside₀ out₀ p₀ at₀ line beside out p at = length chunk - at
 
 loop-holds : tie.Need-loop-holds Inv-loop μ-loop
-loop-holds c = search needs
+loop-holds c = let s = c .before .before .before .before in (search needs, s .pre .0, s .pre .1, refl, refl, refl, s .pre .2, s .pre .3, feeds-none (now (s .args .line)) (s .args .start .volume) (s .args .start .used) (now (s .args .chunk)))
 
-find-requires : tie.Need-find-requires Inv-loop μ-loop
-find-requires c κs = search needs
+sub-next-answer : tie.Need-sub-next-answer Inv-loop μ-loop
+sub-next-answer c = search needs
 
-sub-add-bytes : tie.Need-sub-add-bytes Inv-loop μ-loop
-sub-add-bytes c = search needs
+part-next-answer-start : tie.Need-part-next-answer-start Inv-loop μ-loop
+part-next-answer-start c = search needs
 
-part-add-bytes-start : tie.Need-part-add-bytes-start Inv-loop μ-loop
-part-add-bytes-start c = search needs
+part-next-answer-end : tie.Need-part-next-answer-end Inv-loop μ-loop
+part-next-answer-end c = search needs
 
-part-add-bytes-end : tie.Need-part-add-bytes-end Inv-loop μ-loop
-part-add-bytes-end c = search needs
+next-answer-requires : tie.Need-next-answer-requires Inv-loop μ-loop
+next-answer-requires c κs = search needs
 
-add-bytes-requires : tie.Need-add-bytes-requires Inv-loop μ-loop
-add-bytes-requires c κs = search needs
-
-finish-requires : tie.Need-finish-requires Inv-loop μ-loop
-finish-requires c κs = search needs
+say-requires : tie.Need-say-requires Inv-loop μ-loop
+say-requires c κs = search needs
 
 add-at : tie.Need-add-at Inv-loop μ-loop
-add-at c = search needs
+add-at c =
+    let l = c .before .before .before .before .before .before .before .before .before .before .before .before .before .before .before .before .loop in
+    let k = now (c .before .before .before .before .before .before .before .before .before .before .before .before .before .before .before .before .before .before .before .before .before .args .chunk) in
+    omega (arith, c .before .before .before .before .before .before .before .before .before .before .next-answer .ensures .1, length-take (length k - l .at) (drop (l .at) k), length-drop (l .at) k, c .before .before .before .before .before .before .before .before .before .before .before .before .before .before .before .before .before .before .before .before .before .good .1 .1 .0 .0)
 
 loop-less : tie.Need-loop-less Inv-loop μ-loop
 loop-less c = search needs
 
 loop-again : tie.Need-loop-again Inv-loop μ-loop
-loop-again c = search needs
-
-loop-less-2 : tie.Need-loop-less-2 Inv-loop μ-loop
-loop-less-2 c = search needs
-
-loop-again-2 : tie.Need-loop-again-2 Inv-loop μ-loop
-loop-again-2 c = search needs
+loop-again c =
+    let l = c .before .before .before .before .before .before .before .before .before .before .before .before .before .before .before .before .loop in
+    let s = c .before .before .before .before .before .before .before .before .before .before .before .before .before .before .before .before .before .before .before .before .before .args in
+    let k = now (s .chunk) in
+    let a = c .before .before .before .before .before .before .before .before .before .before .next-answer in (
+      omega (arith, a .ensures .1, length-take (length k - l .at) (drop (l .at) k), length-drop (l .at) k),
+      omega (arith, a .ensures .0, a .kept .1 .0),
+      omega (arith, a .kept .1 .0),
+      omega (arith, a .kept .1 .0),
+      search needs,
+      search needs,
+      search needs,
+      search needs,
+      feeds-more (now (s .line)) (s .start .volume) (s .start .used) k (l .line) (l .p .volume) (l .p .used) (l .at) (l .inv .8) (a .result .taken) (a .last .1 .0) (a .result .volume) (a .result .used) (a .ensures .3),
+    )
 
 same-length : tie.Need-same-length Inv-loop μ-loop
 same-length c = search needs
@@ -58,7 +70,10 @@ same-length-3 : tie.Need-same-length-3 Inv-loop μ-loop
 same-length-3 c = search needs
 
 returns : tie.Need-returns Inv-loop μ-loop
-returns c = search needs
+returns c =
+    let l = c .before .loop in
+    let s = c .before .before .before .before .before .before .args in
+    (omega arith, feeds-all (now (s .line)) (s .start .volume) (s .start .used) (now (s .chunk)) (l .line) (l .p .volume) (l .p .used) (l .at) (l .inv .8) (c .loop-test .left))
 
 pub take-chunk-spec : {M : Type 1} → statement M
 take-chunk-spec =
@@ -67,17 +82,14 @@ take-chunk-spec =
     Inv-loop
     μ-loop
     loop-holds
-    find-requires
-    sub-add-bytes
-    part-add-bytes-start
-    part-add-bytes-end
-    add-bytes-requires
-    finish-requires
+    sub-next-answer
+    part-next-answer-start
+    part-next-answer-end
+    next-answer-requires
+    say-requires
     add-at
     loop-less
     loop-again
-    loop-less-2
-    loop-again-2
     same-length
     same-length-2
     same-length-3

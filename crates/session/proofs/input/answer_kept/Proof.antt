@@ -1,0 +1,33 @@
+-- `answer_kept`: the line is answered as what is kept of it. Assumes nothing.
+use native.Mathlib.Omega.{arith}
+use mathlib.Core.Path.{sym}
+use lib.ListN.{length-take}
+use lib.Seq.{length-take-le}
+use denote.Ref.{now}
+use Rattle.session.proofs.Feeding.{held-ends}
+use borrow.Author.Needs.{needs}
+use Rattle.session.proofs.input.answer_kept.Statement.{statement}
+use Rattle.session.proofs.input.answer_kept.Tie as tie
+
+slice-aggregate-answer-line : tie.Need-slice-aggregate-answer-line
+slice-aggregate-answer-line c = sym (length-take-le _ _ (c .before .before .before .before .pre .0))
+
+answer-line-requires : tie.Need-answer-line-requires
+answer-line-requires c κs = let s = c .before .before .before .before .before .before in (omega (arith, length-take (s .args .used) (now (s .args .line)), s .pre .0, s .pre .2), omega (arith, s .pre .3))
+
+same-length : tie.Need-same-length
+same-length c = search needs
+
+same-length-2 : tie.Need-same-length-2
+same-length-2 c = search needs
+
+returns : tie.Need-returns
+returns c =
+    let s = c .before .before .before .before .before .before .before .before .before .before .before in
+    let a = c .before .before .before .before .answer-line in
+    (omega (arith, a .ensures .2), held-ends (now (s .args .line)) (s .args .v) (s .args .used) _ _ (s .pre .1) (a .ensures))
+
+pub answer-kept-spec : {M : Type 1} → statement M
+answer-kept-spec =
+    tie.close
+    (tie.spec slice-aggregate-answer-line answer-line-requires same-length same-length-2 returns)

@@ -1,0 +1,58 @@
+-- `next_answer`: the line goes on, or it has ended and is answered. Assumes nothing.
+use native.Mathlib.Omega.{arith}
+use mathlib.Core.Path.{_≡_, sym, _∙_}
+use lib.ListN.{length}
+use denote.Ref.{now}
+use borrow.Author.Tests.{not-true, not-false}
+use Rattle.session.proofs.Feeding.{feeds-on, says-on, feeds-end, says-end}
+use borrow.Author.Needs.{needs}
+use Rattle.session.proofs.input.next_answer.Statement.{statement}
+use Rattle.session.proofs.input.next_answer.Tie as tie
+
+take-line-requires : tie.Need-take-line-requires
+take-line-requires c κs = search needs
+
+same-length : tie.Need-same-length
+same-length c = search needs
+
+returns : tie.Need-returns
+returns c =
+    let s = c .before .before .before .before .before .before .before .before .before .before .before .args in
+    let t = c .before .before .before .before .take-line in
+    let h : length (t .last .0) ≡ length (now (s .line)) = omega (arith, t .kept .0) in
+    let g = sym (t .ensures .3) ∙ not-true _ (c .if1 .taken) in
+    (t .ensures .0, t .ensures .2, omega arith, feeds-on (now (s .line)) (t .last .0) (s .p .volume) (s .p .used) (t .result .used) (now (s .bytes)) h (t .ensures .1) (t .result .taken) (t .ensures .2) g, says-on (now (s .line)) (t .last .0) (s .p .volume) (s .p .used) (t .result .used) (now (s .bytes)) h (t .ensures .1) (t .result .taken) (t .ensures .2) g)
+
+answer-kept-requires : tie.Need-answer-kept-requires
+answer-kept-requires c κs = search needs
+
+same-length-2 : tie.Need-same-length-2
+same-length-2 c = search needs
+
+same-length-3 : tie.Need-same-length-3
+same-length-3 c = search needs
+
+same-length-4 : tie.Need-same-length-4
+same-length-4 c = search needs
+
+returns-2 : tie.Need-returns-2
+returns-2 c =
+    let s = c .before .before .before .before .before .before .before .before .before .before .before .before .before .before .before .before .before .before .before .before .args in
+    let t = c .before .before .before .before .before .before .before .before .before .before .before .before .before .take-line in
+    let a = c .before .before .before .before .before .answer-kept in
+    let h : length (t .last .0) ≡ length (now (s .line)) = omega (arith, t .kept .0) in
+    let g = sym (t .ensures .3) ∙ not-false _ (c .before .before .before .before .before .before .before .before .before .if1 .left) in
+    (omega arith, t .ensures .2, a .ensures .0, feeds-end (now (s .line)) (t .last .0) (s .p .volume) (s .p .used) (t .result .used) (now (s .bytes)) h (t .ensures .1) (t .result .taken) (t .ensures .2) g _ _ (a .ensures .1), says-end (now (s .line)) (t .last .0) (s .p .volume) (s .p .used) (t .result .used) (now (s .bytes)) h (t .ensures .1) (t .result .taken) (t .ensures .2) g _ _ (a .ensures .1))
+
+pub next-answer-spec : {M : Type 1} → statement M
+next-answer-spec =
+    tie.close
+    (tie.spec
+    take-line-requires
+    same-length
+    returns
+    answer-kept-requires
+    same-length-2
+    same-length-3
+    same-length-4
+    returns-2)
