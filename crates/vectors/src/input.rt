@@ -2,7 +2,8 @@
 use crate::answers;
 use crate::requests;
 use libc::STDIN_FILENO;
-ghost use Prim.Native.Nat.{_≤_};
+use script::cutting;
+ghost use Prim.Native.Nat.{_≤_, _<_};
 ghost use lib.ListN.{length};
 ghost use Rattle.io.specs.Counts.{Counts};
 
@@ -17,31 +18,21 @@ fn finish(line: &[u8], used: usize)
     requests::answer(&line[0..used]);
 }
 
-// Adds a byte to a line of `used` bytes, and returns how many it has then. A newline ends the line: it is answered, and the next has none yet.
-fn add_byte(line: &mut [u8], used: usize, b: u8) -> usize
-    requires { ⌜ used ≤ length (now line) ⌝ }
-    ensures { λ r. ⌜ r ≤ length (now (line .entry)) ⌝ }
-{
-    if b == b'\n' {
-        finish(line, used);
-        return 0;
-    }
-    if used < line.len() {
-        line[used] = b;
-        return used + 1;
-    }
-    used
-}
-
-fn add_bytes(line: &mut [u8], used: usize, bytes: &[u8]) -> usize
-    requires { ⌜ used ≤ length (now line) ⌝ }
+// Answers each line that ends in a chunk of the input, and returns how many bytes of the next line there are.
+fn take_chunk(line: &mut [u8], used: usize, chunk: &[u8]) -> usize
+    requires { ⌜ (used ≤ length (now line)) × (0 < length (now line)) ⌝ }
     ensures { λ r. ⌜ r ≤ length (now (line .entry)) ⌝ }
 {
     let mut n = used;
-    let mut i: usize = 0;
-    while i < bytes.len() {
-        n = add_byte(line, n, bytes[i]);
-        i += 1;
+    let mut at: usize = 0;
+    while at < chunk.len() {
+        let cut = cutting::take_line(line, n, &chunk[at..]);
+        n = cut.used;
+        if cut.ended {
+            finish(line, n);
+            n = 0;
+        }
+        at += cut.taken;
     }
     n
 }
@@ -57,6 +48,7 @@ fn read_some(chunk: &mut [u8]) -> usize
 // Answers each line that a newline ends, and returns how many bytes of a last line are left. A proved loop has to end, and nothing says that the input
 // does: so the loop counts its turns down, from a number that no run uses up.
 fn answer_whole_lines(line: &mut [u8], chunk: &mut [u8]) -> usize
+    requires { ⌜ 0 < length (now line) ⌝ }
     ensures { λ r. ⌜ r ≤ length (now (line .entry)) ⌝ }
 {
     let mut used: usize = 0;
@@ -66,14 +58,16 @@ fn answer_whole_lines(line: &mut [u8], chunk: &mut [u8]) -> usize
         if n == 0 {
             return used;
         }
-        used = add_bytes(line, used, &chunk[..n]);
+        used = take_chunk(line, used, &chunk[..n]);
         turns -= 1;
     }
     used
 }
 
 // Answers every line; the last may lack its newline.
-pub fn answer_all(line: &mut [u8], chunk: &mut [u8]) {
+pub fn answer_all(line: &mut [u8], chunk: &mut [u8])
+    requires { ⌜ 0 < length (now line) ⌝ }
+{
     let used = answer_whole_lines(line, chunk);
     if 0 < used {
         finish(line, used);

@@ -1,5 +1,5 @@
 -- `answer_whole_lines` ends, since its turns are counted down, and never counts more bytes than `line` holds. Assumes nothing.
-use Prim.Native.Nat.{_≤_}
+use Prim.Native.Nat.{_≤_, _<_}
 use mathlib.Core.Path.{_≡_}
 use lib.ListN.{length}
 use borrow.Author.Needs.{needs}
@@ -7,7 +7,7 @@ use Rattle.vectors.proofs.input.answer_whole_lines.Statement.{statement
 use Rattle.vectors.proofs.input.answer_whole_lines.Tie as tie
 
 abbrev Inv-loop : tie.InvT-loop
-Inv-loop line₀ chunk₀ used₀ turns₀ line chunk used turns = (used ≤ length line) × (length line ≡ length line₀) × (length chunk ≡ length chunk₀)
+Inv-loop line₀ chunk₀ used₀ turns₀ line chunk used turns = (used ≤ length line) × (0 < length line) × (length line ≡ length line₀) × (length chunk ≡ length chunk₀)
 
 abbrev μ-loop : tie.MeasureT-loop
 μ-loop line₀ chunk₀ used₀ turns₀ line chunk used turns = turns
@@ -27,14 +27,14 @@ same-length-2 c = search needs
 returns : tie.Need-returns Inv-loop μ-loop
 returns c = search needs
 
-slice-reshare-prefix-add-bytes : tie.Need-slice-reshare-prefix-add-bytes Inv-loop μ-loop
-slice-reshare-prefix-add-bytes c = search needs
+slice-reshare-prefix-take-chunk : tie.Need-slice-reshare-prefix-take-chunk Inv-loop μ-loop
+slice-reshare-prefix-take-chunk c = search needs
 
-slice-aggregate-add-bytes : tie.Need-slice-aggregate-add-bytes Inv-loop μ-loop
-slice-aggregate-add-bytes c = search needs
+slice-aggregate-take-chunk : tie.Need-slice-aggregate-take-chunk Inv-loop μ-loop
+slice-aggregate-take-chunk c = search needs
 
-add-bytes-requires : tie.Need-add-bytes-requires Inv-loop μ-loop
-add-bytes-requires c κs = search needs
+take-chunk-requires : tie.Need-take-chunk-requires Inv-loop μ-loop
+take-chunk-requires c κs = search needs
 
 sub-turns : tie.Need-sub-turns Inv-loop μ-loop
 sub-turns c = search needs
@@ -65,9 +65,9 @@ answer-whole-lines-spec =
     same-length
     same-length-2
     returns
-    slice-reshare-prefix-add-bytes
-    slice-aggregate-add-bytes
-    add-bytes-requires
+    slice-reshare-prefix-take-chunk
+    slice-aggregate-take-chunk
+    take-chunk-requires
     sub-turns
     loop-less
     loop-again
