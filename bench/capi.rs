@@ -18,6 +18,8 @@ extern "C" {
         block_len: usize,
     ) -> u8;
     fn bulwarkle_cts_encrypt(key: *const u8, key_len: usize, text: *mut u8, text_len: usize) -> u8;
+    fn bulwarkle_cts_decrypt(key: *const u8, key_len: usize, text: *mut u8, text_len: usize) -> u8;
+    fn bulwarkle_ecb_encrypt(key: *const u8, key_len: usize, text: *mut u8, text_len: usize) -> u8;
 }
 
 pub fn xts_encrypt(key: &[u8], block_number: u64, block: &mut [u8]) -> u8 {
@@ -46,4 +48,12 @@ pub fn xts_decrypt(key: &[u8], block_number: u64, block: &mut [u8]) -> u8 {
 
 pub fn cts_encrypt(key: &[u8], text: &mut [u8]) -> u8 {
     unsafe { bulwarkle_cts_encrypt(key.as_ptr(), key.len(), text.as_mut_ptr(), text.len()) }
+}
+
+pub fn cts_decrypt(key: &[u8], text: &mut [u8]) -> u8 {
+    unsafe { bulwarkle_cts_decrypt(key.as_ptr(), key.len(), text.as_mut_ptr(), text.len()) }
+}
+
+pub fn ecb_encrypt(key: &[u8], text: &mut [u8]) -> u8 {
+    unsafe { bulwarkle_ecb_encrypt(key.as_ptr(), key.len(), text.as_mut_ptr(), text.len()) }
 }

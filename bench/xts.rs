@@ -19,12 +19,17 @@ const STRETCHES: usize = BLOCK * BLOCKS / STRETCH;
 fn main() {
     let key: [u8; 64] = std::array::from_fn(|i| (7 * i + 1) as u8);
     known_answers();
+    other_answers();
     refusals(&key);
+    compare(&key);
+}
 
-    let prepared = Xts::new(&key);
+/// Both sides by turns; the times of both.
+fn compare(key: &[u8; 64]) {
+    let prepared = Xts::new(key);
     let rust = |number: u64, block: &mut [u8]| black_box(&prepared).encrypt(number, block);
     let rattle = |number: u64, block: &mut [u8]| {
-        assert_eq!(capi::xts_encrypt(black_box(&key), number, block), 0)
+        assert_eq!(capi::xts_encrypt(black_box(key), number, block), 0)
     };
     let plain = noise(BLOCK * BLOCKS);
     let (mut by_rust, mut by_rattle) = (plain.clone(), plain.clone());
@@ -45,11 +50,15 @@ fn main() {
         }
         assert!(by_rust == by_rattle, "the two disagree");
         expansion.measure(&key[..32]);
-        opening = opening.min(opens(&key, &by_rattle, &plain));
+        opening = opening.min(opens(key, &by_rattle, &plain));
     }
 
+    report(&rust_times, &rattle_times, expansion.seconds(), opening);
+}
+
+fn report(rust_times: &Times, rattle_times: &Times, expansion: f64, opening: f64) {
     let (rust, rattle) = (rust_times.best(), rattle_times.best());
-    let without_expansion = rattle - (2 * BLOCKS) as f64 * expansion.seconds();
+    let without_expansion = rattle - (2 * BLOCKS) as f64 * expansion;
     println!("16 MiB in {BLOCKS} blocks, in milliseconds: best of {REPETITIONS} (mean)");
     println!("rust, keys expanded once: {rust_times}");
     println!("rattle, keys expanded at each call: {rattle_times}");
@@ -57,7 +66,7 @@ fn main() {
         "rattle, a block in microseconds: sealed {:.1}, opened {:.1}; one key expansion {:.2}",
         1e6 * rattle / BLOCKS as f64,
         1e6 * opening,
-        1e6 * expansion.seconds()
+        1e6 * expansion
     );
     println!(
         "with prepared keys (estimated): ratio {:.2}",
@@ -173,6 +182,28 @@ fn known_answers() {
     assert_eq!(capi::xts_encrypt(&key, 0xff, &mut by_rattle), 0);
     assert_eq!(by_rust[..32], sealed);
     assert_eq!(by_rattle[..32], sealed);
+}
+
+/// The other functions of the archive: NIST SP 800-38A, F.1.1, and RFC 3962's text of 31 bytes, there
+/// and back.
+fn other_answers() {
+    let mut text = bytes("6bc1bee22e409f96e93d7e117393172aae2d8a571e03ac9c9eb76fac45af8e51");
+    let enciphered = bytes("3ad77bb40d7a3660a89ecaf32466ef97f5d3d58503b9699de785895a96fdbaaf");
+    let key = bytes("2b7e151628aed2a6abf7158809cf4f3c");
+    assert_eq!(capi::ecb_encrypt(&key, &mut text), 0);
+    assert_eq!(text, enciphered);
+    assert_eq!(capi::ecb_encrypt(&key[1..], &mut text), 22);
+    assert_eq!(text, enciphered);
+
+    let plain = b"I would like the General Gau's ";
+    let stolen = bytes("fc00783e0efdb2c1d445d4c8eff7ed2297687268d6ecccc0c07b25e25ecfe5");
+    let mut text = plain.to_vec();
+    assert_eq!(capi::cts_encrypt(b"chicken teriyaki", &mut text), 0);
+    assert_eq!(text, stolen);
+    assert_eq!(capi::cts_decrypt(b"chicken", &mut text), 22);
+    assert_eq!(text, stolen);
+    assert_eq!(capi::cts_decrypt(b"chicken teriyaki", &mut text), 0);
+    assert_eq!(text, plain);
 }
 
 fn bytes(hex: &str) -> Vec<u8> {
