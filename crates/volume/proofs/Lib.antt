@@ -15,6 +15,7 @@ mod SoundCreate
 mod SoundExchange
 mod SoundRemove
 pub mod Soundness
+mod Unsound
 pub mod PolicyClause
 pub mod Bytewise
 pub mod SealedOpens
