@@ -2,13 +2,10 @@
 -- Assumes nothing.
 use mathlib.Core.Path.{_≡_}
 use mathlib.Core.List.{List}
-use Prim.Native.Nat.{ℕ, _<_}
 use lib.ListN.{length, length-map}
 use mir.Val.{Val}
 use denote.Laws.{Is}
-use Rattle.lists.specs.Bytes.{Bytes}
-use Rattle.fscrypt.proofs.Name.{the-row as name-row}
-use Rattle.fscrypt.specs.declared.Name.{Name}
+use Rattle.fscrypt.proofs.Shape.{Sized}
 use Rattle.volume.proofs.Volume.{the-row as volume-row}
 use Rattle.volume.proofs.Entry.{the-row as entry-row}
 use Rattle.volume.specs.Volume.{keySlots, inodeSlots, entrySlots}
@@ -28,13 +25,5 @@ shaped v g =
       entries = simp length-map at (g .1 .1 .1 .1 .0 .1 .0 .1);
     }
 
--- a name's length, which fits a byte, and the array that the name stands in
-pub record Sized (n : ℕ) (b : Bytes) : Type 0 where
-  pub len : n < 256
-  pub bytes : length b ≡ 255
-
 pub entry-sized : (e : Entry) {vs : List Val} → Is entry-row e vs → Sized (e .len) (e .name)
 entry-sized e g = record { len = g .1 .1 .0 .1; bytes = simp length-map at (g .1 .1 .1 .1 .1 .0 .1 .0 .1) }
-
-pub name-sized : (n : Name) {vs : List Val} → Is name-row n vs → Sized (n .len) (n .bytes)
-name-sized n g = record { len = g .1 .1 .0 .1; bytes = simp length-map at (g .1 .1 .1 .0 .1 .0 .1) }

@@ -2,7 +2,8 @@
 use mathlib.Core.Path.{sym}
 use native.Mathlib.Omega.{arith}
 use lib.Seq.{length-take-le}
-use Rattle.lookup.proofs.Shape.{entry-sized, name-sized}
+use Rattle.fscrypt.proofs.Shape.{name-sized}
+use Rattle.lookup.proofs.Shape.{entry-sized}
 use borrow.Author.Needs.{needs}
 use Rattle.lookup.proofs.entries.same_name.Statement.{statement}
 use Rattle.lookup.proofs.entries.same_name.Tie as tie
