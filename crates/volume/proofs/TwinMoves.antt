@@ -22,7 +22,7 @@ use Rattle.volume.specs.declared.Entry.{Entry}
 use Rattle.volume.specs.declared.Volume.{Volume}
 use Rattle.volume.proofs.Twin.{Setting, test, both-fine, encKey, dirIn, encEntry, enc, InodeOk, Inv, EntryOk, StepTwin, Same}
 use Rattle.volume.proofs.TwinLookup.{needed-twin, entry-twin, child-twin, link-at-twin, under-twin}
-use Rattle.volume.proofs.TwinStore.{no-child, kept-inv, kept-enc}
+use Rattle.volume.proofs.TwinStore.{no-child, nonces-set, kept-inv, kept-enc}
 
 module _ (S : Setting) {g : Names} (v : Volume) (ok : Inv S g v) where
   -- an entry's inode is no part of what holds of it
@@ -116,7 +116,7 @@ module _ (S : Setting) {g : Names} (v : Volume) (ok : Inv S g v) where
       ok₁ = set-inv (v .entries) (e .0) noEntry ok (λ u. absurd (true≢false u))
 
       nonces : (j : ℕ) → InodeOk S (getD is′ j noInode)
-      nonces = all-set (λ j y. InodeOk S y) (v .inodes) noInode (i .0) noInode (λ j u. absurd (false≢true u)) (λ j ne. ok .inodes-ok j) (λ u. absurd (false≢true u))
+      nonces = nonces-set S v ok (i .0) noInode (λ u. absurd (false≢true u))
 
       -- no entry that is left stands in the inode that goes
       kept : hasEntries v i ≡ false → (j : ℕ) → isVacant (getD es j noEntry) ≡ false → dirIn is′ (getD es j noEntry) ≡ inodeAt v ((getD es j noEntry) .parent)

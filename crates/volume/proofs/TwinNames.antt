@@ -9,7 +9,7 @@ use lib.Seq.{getD-set-other}
 use lib.Dec.{eqb, leb, ltb}
 use Rattle.lists.specs.Bytes.{Bytes, ByteList, firstAt}
 use Rattle.lists.proofs.Tests.{eqb-self}
-use Rattle.lists.proofs.Tables.{all-set, firstAt-passes}
+use Rattle.lists.proofs.Tables.{firstAt-passes}
 use Rattle.policy.specs.Policies.{policyCheck, readPolicy}
 use Rattle.volume.specs.Volume.{entrySlots, noInode, plainInode, encryptedInode, entrySlot}
 use Rattle.volume.specs.Request.{setPolicy, create, link, rename, done, created, at, outcome}
@@ -26,7 +26,7 @@ use Rattle.volume.specs.declared.Entry.{Entry}
 use Rattle.volume.specs.declared.Volume.{Volume}
 use Rattle.volume.proofs.Twin.{Setting, Alike, test, part, both-fine, encKey, dirIn, encEntry, enc, InodeOk, Inv, StepTwin, Same}
 use Rattle.volume.proofs.TwinLookup.{needed-twin, entry-twin, free-entry-twin, child-twin, under-twin, entryNamed-twin, name-part, directory-part}
-use Rattle.volume.proofs.TwinStore.{no-child, kept-inv, kept-enc, store-inv, store-enc}
+use Rattle.volume.proofs.TwinStore.{no-child, nonces-set, kept-inv, kept-enc, store-inv, store-enc}
 
 module _ (S : Setting) {g : Names} (v : Volume) (ok : Inv S g v) where
   policy-part : (p : Bytes) → Alike (Unit {0}) (policyCheck p) (policyCheck p)
@@ -35,10 +35,6 @@ module _ (S : Setting) {g : Names} (v : Volume) (ok : Inv S g v) where
       test _ tt refl λ h₁.
       test _ tt refl λ h₂.
       both-fine tt
-
-  -- one inode changes, for one whose nonce is bytes
-  nonces-set : (i : ℕ) (x : Inode) → InodeOk S x → (j : ℕ) → InodeOk S (getD (set (v .inodes) i x) j noInode)
-  nonces-set i x h = all-set (λ j y. InodeOk S y) (v .inodes) noInode i x (λ j u. absurd (false≢true u)) (λ j ne. ok .inodes-ok j) h
 
   pub setPolicy-twin : (i : InodeNumber) (p x : Bytes) → ByteList x → Same S g v (setPolicy i p x) (setPolicy i p x)
   unfolding Same check effect setPolicyCheck nonceHolder namedBy naming named blankBuffer
@@ -57,7 +53,7 @@ module _ (S : Setting) {g : Names} (v : Volume) (ok : Inv S g v) where
       is′ = set (v .inodes) (i .0) (encryptedInode 1 ((readPolicy p) .policy) x)
 
       nonces : (j : ℕ) → InodeOk S (getD is′ j noInode)
-      nonces = nonces-set (i .0) (encryptedInode 1 ((readPolicy p) .policy) x) (λ u. xb)
+      nonces = nonces-set S v ok (i .0) (encryptedInode 1 ((readPolicy p) .policy) x) (λ u. xb)
 
       kept : hasEntries v i ≡ false → (j : ℕ) → Used v j
           → dirIn is′ (slotAt v j) ≡ dirOf v j
@@ -110,7 +106,7 @@ module _ (S : Setting) {g : Names} (v : Volume) (ok : Inv S g v) where
       is′ = set (v .inodes) (i .0) (childOf (inodeAt v p) kind x)
 
       nonces : (j : ℕ) → InodeOk S (getD is′ j noInode)
-      nonces = nonces-set (i .0) (childOf (inodeAt v p) kind x) (child-ok (inodeAt v p) kind x xb)
+      nonces = nonces-set S v ok (i .0) (childOf (inodeAt v p) kind x) (child-ok (inodeAt v p) kind x xb)
 
       -- a directory is not the free inode that is taken
       kept : (q : InodeNumber) → (inodeAt v q) .kind ≡ 1 → getD is′ (q .0) noInode ≡ inodeAt v q

@@ -4,7 +4,7 @@ use Prim.Native.Nat.{ℕ, _-_, _≤_}
 use native.Mathlib.Omega.{arith}
 use mathlib.Core.Path.{_≡_, refl, sym, _∙_, ap, ap₂, subst}
 use mathlib.Core.Logic.{_≢_}
-use mathlib.Core.Bool.{Bool, true, false, cond, not, true≢false}
+use mathlib.Core.Bool.{Bool, true, false, cond, not, true≢false, false≢true}
 use mathlib.Core.List.{List, _++_, map}
 use mathlib.Core.Option.{some, none}
 use lib.ListN.{length, getD, set, take, drop, length-set}
@@ -48,6 +48,10 @@ module _ (S : Setting) {g : Names} (v : Volume) (ok : Inv S g v) where
   no-child i h j u =
       let w : entrySlots ≤ firstAt (isIn i) (v .entries) = ltb-false (firstAt (isIn i) (v .entries)) entrySlots h in
       and-known (ap not u) (firstAt-none (isIn i) (v .entries) noEntry refl (omega (arith, ok .sized)) j)
+
+  -- one inode changes, for one whose nonce is bytes
+  pub nonces-set : (i : ℕ) (x : Inode) → InodeOk S x → (j : ℕ) → InodeOk S (getD (set (v .inodes) i x) j noInode)
+  nonces-set i x h = all-set (λ j y. InodeOk S y) (v .inodes) noInode i x (λ j u. absurd (false≢true u)) (λ j ne. ok .inodes-ok j) h
 
   -- an entry whose directory stays as it is
   entry-kept : (is′ : List Inode) (e : Entry) → (isVacant e ≡ false → dirIn is′ e ≡ inodeAt v (e .parent)) → encEntry S (v .inodes) e ≡ encEntry S is′ e
