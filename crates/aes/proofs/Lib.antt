@@ -5,6 +5,6 @@ pub mod Spread
 pub mod Seams
 pub mod Put
 pub mod Schedule
-mod Columns
+pub mod Columns
 mod Steps
 mod Vectors

@@ -1,45 +1,19 @@
--- Lists of bytes: what is made of bytes is bytes, and so is an expanded key. Assumes nothing.
-use mathlib.Core.Path.{_≡_, refl, sym, ap, subst}
+-- What is made of bytes is bytes: the lists of words and states, the words and states read in a list, and an expanded key. Assumes nothing.
 use mathlib.Core.Bool.{Bool, true, false, cond}
 use mathlib.Core.List.{List, [], _∷_, _++_}
 use Prim.Native.Nat.{ℕ, zero, suc, _+_, _-_, _*_, _/_, _%_, _<_}
-use native.Mathlib.Omega.{arith}
 use lib.Dec.{eqb, ltb, lit<}
-use lib.ListN.{length, take, drop, getD, replicate}
-use lib.Seq.{getD-drop}
-use Rattle.field.specs.Field.{xTimes}
+use lib.ListN.{length}
 use Rattle.aes.specs.Words.{wordAt, addWord, subWord, rotWord}
 use Rattle.aes.specs.States.{stateAt}
 use Rattle.aes.specs.Bytes.{wordBytes, stateBytes}
 use Rattle.lists.specs.Bytes.{ByteList}
+use Rattle.lists.proofs.ByteStrings.{nil-bytes, cons-bytes, append-bytes}
 use Rattle.aes.specs.KeyExpansion.{xPower, rcon, temp, nextWord, expanded, keyExpansion}
 use Rattle.aes.specs.declared.Word.{Word}
 use Rattle.aes.specs.declared.State.{State}
 use Rattle.field.proofs.Xor.{xTimes-lt}
 use Rattle.aes.proofs.ByteStates.{ByteWord, ByteState, subWord-bytes, addWord-bytes}
-
--- ---- lists
-
-pub nil-bytes : ByteList []
-nil-bytes i = lit< tt
-
-pub cons-bytes : (x : ℕ) (l : List ℕ) → x < 256 → ByteList l → ByteList (x ∷ l)
-cons-bytes x l h g zero = h
-cons-bytes x l h g (suc i) = g i
-
-pub append-bytes : (l m : List ℕ) → ByteList l → ByteList m → ByteList (l ++ m)
-append-bytes [] m h g i = g i
-append-bytes (x ∷ l) m h g zero = h zero
-append-bytes (x ∷ l) m h g (suc i) = append-bytes l m (λ j. h (suc j)) g i
-
-pub take-bytes : (n : ℕ) (l : List ℕ) → ByteList l → ByteList (take n l)
-take-bytes zero l h i = lit< tt
-take-bytes (suc n) [] h i = lit< tt
-take-bytes (suc n) (x ∷ l) h zero = h zero
-take-bytes (suc n) (x ∷ l) h (suc i) = take-bytes n l (λ j. h (suc j)) i
-
-pub drop-bytes : (n : ℕ) (l : List ℕ) → ByteList l → ByteList (drop n l)
-drop-bytes n l h i = subst (λ (x : ℕ). x < 256) (sym (getD-drop n l i 0)) (h (n + i))
 
 -- ---- words and states
 

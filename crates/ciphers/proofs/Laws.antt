@@ -1,23 +1,22 @@
 -- The laws that callers of ciphers cite, and nothing more: what was encrypted is decrypted again, lengths are kept, and results are bytes, for every key
 -- and every buffer. Each entry is `answer` of a test of lengths, so each law is one on `answer`, given what the mode does. Assumes nothing.
-use mathlib.Core.Path.{_≡_, refl, sym, ap, _∙_, subst}
+use mathlib.Core.Path.{_≡_, refl, sym, ap, _∙_}
 use mathlib.Core.Bool.{Bool, true, false}
 use mathlib.Core.List.{List}
-use Prim.Native.Nat.{ℕ, _+_, _*_, _/_, _≤_, _<_}
-use native.Mathlib.Omega.{arith}
+use Prim.Native.Nat.{ℕ, _/_}
 use lib.ListN.{length, take, drop}
 use Rattle.lists.specs.Bytes.{ByteList}
-use Rattle.aes.specs.KeyExpansion.{KeySize, roundsOf, keyExpansion}
-use Rattle.aes.specs.declared.State.{State}
+use Rattle.aes.specs.KeyExpansion.{roundsOf, keyExpansion}
 use Rattle.aes.proofs.ByteStates.{ByteState, cipher-bytes}
-use Rattle.aes.proofs.Spread.{keyExpansion-bytes, take-bytes, drop-bytes}
+use Rattle.lists.proofs.ByteStrings.{take-bytes, drop-bytes}
+use Rattle.aes.proofs.Spread.{keyExpansion-bytes}
 use Rattle.modes.specs.Xts.{xtsAesEnc, xtsAesDec, numberBlock}
 use Rattle.modes.specs.Cts.{cbcCs3Encrypt, cbcCs3Decrypt}
 use Rattle.modes.specs.Ecb.{ecbBlocks}
 use Rattle.modes.proofs.EachBlock.{length-ecbBlocks, ecbBlocks-bytes}
 use Rattle.modes.proofs.Opened.{numberBlock-bytes, xts-dec-enc, xts-enc-dec, xtsAesEnc-bytes, xtsAesDec-bytes, length-xtsAesEnc, length-xtsAesDec}
 use Rattle.modes.proofs.Returned.{cts-round-trip, length-cbcCs3Encrypt, length-cbcCs3Decrypt, cbcCs3Encrypt-bytes, cbcCs3Decrypt-bytes}
-use Rattle.ciphers.specs.Entries.{Answer, answer, zeroBlock, ctsFits, ctsEncrypt, ctsDecrypt, xtsFits, tweakOf, xtsEncrypt, xtsDecrypt, ecbFits, ecbEncrypt}
+use Rattle.ciphers.specs.Entries.{answer, zeroBlock, ctsFits, ctsEncrypt, ctsDecrypt, xtsFits, tweakOf, xtsEncrypt, xtsDecrypt, ecbFits, ecbEncrypt}
 use Rattle.ciphers.proofs.Fits.{cts-sizes, xts-sizes, ecb-sizes}
 
 -- ---- laws on `answer`

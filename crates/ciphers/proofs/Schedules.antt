@@ -1,12 +1,11 @@
 -- Key schedules as code holds them, in an array of 240 bytes: what is done under the part of the array that is used is done under KeyExpansion's result.
 -- Assumes nothing.
-use mathlib.Core.Path.{_≡_, refl, sym, ap, ap₂, _∙_}
-use mathlib.Core.List.{List, _++_}
+use mathlib.Core.Path.{_≡_, sym, ap, ap₂, _∙_}
+use mathlib.Core.List.{List}
 use Prim.Native.Nat.{ℕ, _+_, _-_, _*_, _/_, _≤_}
-use native.Mathlib.Nat.{zero-add}
 use native.Mathlib.Omega.{arith}
 use lib.ListN.{length, take, drop, length-drop}
-use lib.Seq.{take-at, take-all, length-take-le}
+use lib.Seq.{take-all, length-take-le}
 use Rattle.aes.specs.Bytes.{putAt}
 use Rattle.aes.specs.Cipher.{cipher}
 use Rattle.aes.specs.KeyExpansion.{roundsOf, keyExpansion}
@@ -21,9 +20,6 @@ pub schedule-by : (key w₀ w : List ℕ) → w ≡ putAt w₀ 0 (keyExpansion k
 schedule-by key w₀ w h =
     let m : 16 * (length key / 4 + 7) ≡ 0 + length (keyExpansion key) = omega (arith, length-keyExpansion key) in
     ap (take (16 * (length key / 4 + 7))) h ∙ take-putAt w₀ 0 (keyExpansion key) (16 * (length key / 4 + 7)) m (omega arith)
-
-pub count-take : (n : ℕ) (l : List ℕ) → n ≤ length l → n ≡ length (take n l)
-count-take n l h = sym (length-take-le n l h)
 
 -- a cipher over a key schedule, a number of rounds, a first block and a buffer
 pub under : (f : List ℕ → ℕ → State → List ℕ → List ℕ) (key w l l′ : List ℕ) (z : State) → l′ ≡ f (take (16 * (length key / 4 + 6 + 1)) w) (length key / 4 + 6) z l

@@ -3,12 +3,12 @@
 use mathlib.Core.Path.{_≡_, sym, ap, _∙_}
 use mathlib.Core.Bool.{Bool, true, false}
 use mathlib.Core.List.{[], _++_}
-use Prim.Native.Nat.{ℕ, zero, suc, _-_, _≤_}
-use native.Mathlib.Omega.{arith}
-use lib.ListN.{length, drop, set}
+use Prim.Native.Nat.{ℕ, _-_, _≤_}
+use lib.ListN.{length, set}
 use lib.Seq.{set-out}
-use Rattle.lists.specs.Bytes.{Bytes, zeros, laidOver}
+use Rattle.lists.specs.Bytes.{Bytes, laidOver}
 use Rattle.lists.proofs.Tests.{if-true, if-false}
+use Rattle.lists.proofs.ByteStrings.{drop-zeros}
 use Rattle.policy.specs.Policies.{policyBytes, readPolicy}
 use Rattle.policy.specs.declared.PolicyRead.{PolicyRead}
 use Rattle.fscrypt.specs.Cipher.{Cipher}
@@ -28,15 +28,6 @@ use Rattle.volume.specs.declared.Entry.{Entry}
 use Rattle.volume.specs.declared.Volume.{Volume}
 
 -- ---- records
-
-count : (a b : ℕ) → a ≡ b → zeros a ≡ zeros b
-count a b e = ap zeros e
-
-drop-zeros : (n m : ℕ) → drop n (zeros m) ≡ zeros (m - n)
-unfolding zeros
-drop-zeros zero m = count m (m - 0) (omega arith)
-drop-zeros (suc n) zero = count 0 (0 - suc n) (omega arith)
-drop-zeros (suc n) (suc m) = drop-zeros n m ∙ count (m - n) (suc m - suc n) (omega arith)
 
 -- a key laid over the zeros of a free slot
 pub key-laid : (d b k : Bytes) (z : Key) → b ≡ laidOver (z .bytes) k → z ≡ noKey → _≡_ {A = Key} (record { len = length k; descriptor = d; bytes = b }) (keySlot d k)

@@ -10,6 +10,7 @@ use lib.ListN.{length, take, drop, getD, set, length-append, length-drop}
 use lib.Seq.{getD-drop, length-take-le, take-length, set-at, append-snoc, paste, paste-suc}
 use borrow.Author.Tests.{lt-ltb, le-ltb, le-leb, lt-leb}
 use Rattle.lists.specs.Bytes.{Bytes, zeros, hexDigit}
+use Rattle.lists.proofs.ByteStrings.{drop-zeros}
 use Rattle.fscrypt.specs.Encoded.{letter, letters, encoded}
 use Rattle.fscrypt.specs.Names.{packed}
 use Rattle.fscrypt.specs.declared.Name.{Name}
@@ -76,7 +77,7 @@ first-3 (a ∷ []) h = absurd (omega arith)
 first-3 (a ∷ b ∷ []) h = absurd (omega arith)
 first-3 (a ∷ b ∷ c ∷ rest) h = refl
 
--- letter j by its place among four, as what the code returns for it
+-- letter j by its position among four, as what the code returns for it
 module _ (s : Bytes) (j : ℕ) (h : j < length (letters s)) where
   letter-of-rest : (k : ℕ) → j % 4 ≡ k → getD (letters s) j 0 ≡ getD (letters (drop (three (j / 4)) s)) k 0
   letter-of-rest k e =
@@ -157,15 +158,6 @@ paste-turn d at s l j r hd hs e q =
 
 pub paste-end : (d : Bytes) (at : ℕ) (s l : Bytes) (j : ℕ) → l ≡ paste d at s j → j ≡ length s → l ≡ take at d ++ s ++ drop (at + length s) d
 paste-end d at s l j e h = e ∙ ap (λ (k : ℕ). paste d at s k) h ∙ ap (λ (x : Bytes). take at d ++ x ++ drop (at + length s) d) (take-length s)
-
-count : (a b : ℕ) → a ≡ b → zeros a ≡ zeros b
-count a b e = ap zeros e
-
-drop-zeros : (n m : ℕ) → drop n (zeros m) ≡ zeros (m - n)
-unfolding zeros
-drop-zeros zero m = count m (m - 0) (omega arith)
-drop-zeros (suc n) zero = count 0 (0 - suc n) (omega arith)
-drop-zeros (suc n) (suc m) = drop-zeros n m ∙ count (m - n) (suc m - suc n) (omega arith)
 
 zeros-more : (n : ℕ) → zeros (suc n) ≡ 0 ∷ zeros n
 unfolding zeros

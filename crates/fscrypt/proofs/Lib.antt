@@ -4,5 +4,5 @@ pub mod Padding
 pub mod Shape
 pub mod Shown
 pub mod Distinct
+pub mod Lettering
 mod Packing
-mod Lettering

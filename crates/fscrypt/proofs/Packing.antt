@@ -2,7 +2,7 @@
 -- what `paddingCheck` says of them. Assumes nothing.
 use mathlib.Core.Path.{_≡_, refl, sym, _∙_, ap, ap₂}
 use mathlib.Core.Bool.{Bool, true, false, not, _&&_}
-use mathlib.Core.List.{[], _∷_, _++_, append-assoc}
+use mathlib.Core.List.{[], _++_, append-assoc}
 use Prim.Native.Nat.{ℕ, zero, suc, _+_, _-_, _*_, _/_, _≤_, _<_, max}
 use native.Mathlib.Omega.{arith}
 use native.Mathlib.Nat.{div-mul-le-self}
@@ -15,6 +15,7 @@ use lib.Dec.{eqb}
 use borrow.Author.Tests.{le-leb, lt-leb}
 use Rattle.lists.specs.Bytes.{Bytes, zeros, laidOver, firstAt}
 use Rattle.lists.proofs.Tests.{if-true, if-false}
+use Rattle.lists.proofs.ByteStrings.{drop-zeros, append-zeros}
 use Rattle.lists.proofs.Tables.{firstAt-le}
 use Rattle.errno.specs.Refusals.{_⇒_, _>>_, isFine}
 use Rattle.errno.specs.declared.Errno.{Errno}
@@ -55,20 +56,6 @@ module _ (flags n q m : ℕ) (hq : q ≡ multiple flags) (hm : m ≡ max n 16) w
 
 -- ---- names by value
 
-count : (a b : ℕ) → a ≡ b → zeros a ≡ zeros b
-count a b e = ap zeros e
-
-drop-zeros : (n m : ℕ) → drop n (zeros m) ≡ zeros (m - n)
-unfolding zeros
-drop-zeros zero m = count m (m - 0) (omega arith)
-drop-zeros (suc n) zero = count 0 (0 - suc n) (omega arith)
-drop-zeros (suc n) (suc m) = drop-zeros n m ∙ count (m - n) (suc m - suc n) (omega arith)
-
-zeros-append : (a b : ℕ) → zeros a ++ zeros b ≡ zeros (a + b)
-unfolding zeros
-zeros-append zero b = count b (0 + b) (omega arith)
-zeros-append (suc a) b = ap (0 ∷_) (zeros-append a b) ∙ count (suc (a + b)) (suc a + b) (omega arith)
-
 -- a name laid over zeros
 pub laid-packed : (b z s : Bytes) → b ≡ laidOver z s → z ≡ zeros 255 → _≡_ {A = Name} (record { len = length s; bytes = b }) (packed s)
 laid-packed b z s e h i = record { len = length s; bytes = (e ∙ ap (λ (y : Bytes). laidOver y s) h ∙ ap (s ++_) (drop-zeros (length s) 255)) i }
@@ -83,7 +70,7 @@ laid-padded flags m b z s l hm e h =
     let lp : length (s ++ zeros (p - length s)) ≡ p = length-padded flags s l in
     let k : 255 - length s ≡ (p - length s) + (255 - p) = omega (arith, f .high, f .over) in
     let q : s ++ zeros (255 - length s) ≡ (s ++ zeros (p - length s)) ++ zeros (255 - length (s ++ zeros (p - length s))) =
-    ap (λ (n : ℕ). s ++ zeros n) k ∙ ap (s ++_) (sym (zeros-append (p - length s) (255 - p))) ∙ sym (append-assoc s (zeros (p - length s)) (zeros (255 - p)))
+    ap (λ (n : ℕ). s ++ zeros n) k ∙ ap (s ++_) (sym (append-zeros (p - length s) (255 - p))) ∙ sym (append-assoc s (zeros (p - length s)) (zeros (255 - p)))
     ∙ ap (λ (n : ℕ). (s ++ zeros (p - length s)) ++ zeros (255 - n)) (sym lp) in
     λ i. record { len = (hm ∙ sym lp) i; bytes = (e ∙ ap (λ (y : Bytes). laidOver y s) h ∙ ap (s ++_) (drop-zeros (length s) 255) ∙ q) i }
 

@@ -10,6 +10,7 @@ use lib.Seq.{take-append-seam, drop-append-seam, length-take-le}
 use lib.Dec.{eqb, leb, ltb}
 use borrow.Author.Tests.{leb-true, leb-false, ltb-false, le-leb}
 use Rattle.lists.specs.Bytes.{Bytes, ByteList, zeros, firstAt, isEmpty}
+use Rattle.lists.proofs.ByteStrings.{append-bytes, zeros-bytes}
 use Rattle.lists.proofs.Tests.{or-left, eqb-self}
 use Rattle.errno.specs.Refusals.{_⇒_, _>>_, isFine}
 use Rattle.errno.specs.declared.Errno.the-variants.{ENOENT, ENAMETOOLONG, EINVAL, EUCLEAN}
@@ -69,18 +70,9 @@ length-padded flags n h =
     let f = pad-fits flags (length n) h in
     rw (length-append, length-zeros) (omega arith)
 
--- bytes followed by zeros are bytes
-append-zeros : (n : Bytes) (k : ℕ) → ByteList n → ByteList (n ++ zeros k)
-unfolding zeros
-append-zeros [] zero h i = h i
-append-zeros [] (suc k) h zero = omega arith
-append-zeros [] (suc k) h (suc i) = append-zeros [] k h i
-append-zeros (x ∷ xs) k h zero = h 0
-append-zeros (x ∷ xs) k h (suc i) = append-zeros xs k (λ j. h (suc j)) i
-
 pub padded-bytes : (flags : ℕ) (n : Bytes) → ByteList n → ByteList (padded flags n)
 unfolding padded
-padded-bytes flags n h = append-zeros n (paddedLength flags (length n) - length n) h
+padded-bytes flags n h = let k = paddedLength flags (length n) - length n in append-bytes n (zeros k) h (zeros-bytes k)
 
 -- ---- plain names
 

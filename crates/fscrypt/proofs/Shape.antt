@@ -1,8 +1,8 @@
 -- The sizes of a name by value, from what owning it tells (`c .good` at a function's entry, `.ok` of a call's result).
 -- Assumes nothing.
-use mathlib.Core.Path.{_≡_, sym}
+use mathlib.Core.Path.{_≡_}
 use mathlib.Core.List.{List}
-use Prim.Native.Nat.{ℕ, _≤_, _<_}
+use Prim.Native.Nat.{ℕ, _<_}
 use native.Mathlib.Omega.{arith}
 use lib.ListN.{length, length-map, take}
 use lib.Seq.{length-take-le}
@@ -22,7 +22,3 @@ name-sized n g = record { len = g .1 .1 .0 .1; bytes = simp length-map at (g .1 
 
 pub cut-length : {n : ℕ} {b : Bytes} → Sized n b → length (take n b) ≡ n
 cut-length {n} {b} h = length-take-le n b (omega arith)
-
--- the length of a part that was lent
-pub count-take : (n : ℕ) (l : Bytes) → n ≤ length l → n ≡ length (take n l)
-count-take n l h = sym (length-take-le n l h)

@@ -9,6 +9,7 @@ use native.Mathlib.Omega.{arith}
 use lib.ListN.{length, take, getD, length-append, List·getD-eq-default}
 use lib.Seq.{getD-append-add}
 use Rattle.lists.specs.Bytes.{Bytes, ByteList, hexDigit}
+use Rattle.lists.proofs.ByteStrings.{take-bytes}
 use Rattle.fscrypt.specs.Encoded.{letter, letters, encoded}
 use Rattle.fscrypt.proofs.Lettering.{length-letters, length-front, letter-upper, letter-lower, letter-digit, letter-sign, encoded-short}
 use Rattle.fscrypt.proofs.Lettering as lettering
@@ -105,16 +106,10 @@ letters-fair (a ∷ b ∷ c ∷ rest) h =
     (fair-cons _ _ (letter-fair _ (omega (arith, h 2)))
     (fair-cons _ _ (letter-fair _ (omega arith)) (letters-fair rest (λ i. h (suc (suc (suc i))))))))
 
-bytes-take : (n : ℕ) (s : Bytes) → ByteList s → ByteList (take n s)
-bytes-take zero s h i = omega arith
-bytes-take (suc n) [] h i = omega arith
-bytes-take (suc n) (x ∷ s) h zero = h zero
-bytes-take (suc n) (x ∷ s) h (suc i) = bytes-take n s (λ j. h (suc j)) i
-
 long-fair : (s : Bytes) (e : ℕ) → ByteList s → AllFair (95 ∷ (letters (take 160 s) ++ marks e))
 long-fair s e h =
     fair-cons 95 _ (fair-at 95 95 refl (omega arith) (omega arith) (λ z. omega arith))
-    (fair-append (letters (take 160 s)) (marks e) (letters-fair (take 160 s) (bytes-take 160 s h))
+    (fair-append (letters (take 160 s)) (marks e) (letters-fair (take 160 s) (take-bytes 160 s h))
     (fair-cons _ _ (hex-fair (e / 16 % 16) (omega arith)) (fair-cons _ _ (hex-fair (e % 16) (omega arith)) fair-none)))
 
 all-fair : (s : Bytes) (e : ℕ) → ByteList s → AllFair (encoded s e)

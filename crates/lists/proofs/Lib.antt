@@ -6,3 +6,4 @@ pub mod Predicates
 pub mod Slots
 pub mod Digits
 pub mod Copies
+pub mod ByteStrings

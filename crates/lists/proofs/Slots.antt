@@ -2,7 +2,7 @@
 -- table; the pigeonhole by induction on the number of holes, with the value of the last moved into the gap. Assumes nothing.
 use Prim.Native.Nat.{ℕ, zero, suc, _≤_, _<_}
 use native.Mathlib.Omega.{arith}
-use mathlib.Core.Path.{_≡_, refl, sym, _∙_, ap, subst}
+use mathlib.Core.Path.{_≡_, refl, sym, _∙_, ap}
 use mathlib.Core.Logic.{_≢_}
 use mathlib.Core.Bool.{Bool, true, false, cond, false≢true}
 use mathlib.Core.List.{List, [], _∷_}
@@ -60,17 +60,6 @@ module _ {A : Type 0} where
   pub within : (l : List A) (d : A) (i : ℕ) → getD l i d ≢ d → i < length l
   within l d i h = by-test (ltb i (length l)) (λ t. ltb-true i (length l) t) (λ f. absurd (h (List·getD-eq-default l d {n = i} (ltb-false i (length l) f))))
 
-  -- a search for what some slot passes ends at a slot that passes
-  pub firstAt-found : (p : A → Bool) (l : List A) (d : A) (i : ℕ) → p d ≡ false → p (getD l i d) ≡ true → p (getD l (firstAt p l) d) ≡ true
-  unfolding firstAt
-  firstAt-found p [] d i n h = h
-  firstAt-found p (x ∷ xs) d zero n h = subst (λ (b : Bool). p (getD (x ∷ xs) (cond b 0 (suc (firstAt p xs))) d) ≡ true) (sym h) h
-  firstAt-found p (x ∷ xs) d (suc i) n h = go (p x) refl (firstAt-found p xs d i n h)
-    where
-      go : (b : Bool) → p x ≡ b → p (getD xs (firstAt p xs) d) ≡ true → p (getD (x ∷ xs) (cond b 0 (suc (firstAt p xs))) d) ≡ true
-      go true e ih = e
-      go false e ih = ih
-
   -- a search that falls short of the end is at a slot that passes
   firstAt-short : (p : A → Bool) (l : List A) (d : A) → firstAt p l < length l → p (getD l (firstAt p l) d) ≡ true
   unfolding firstAt
@@ -81,6 +70,12 @@ module _ {A : Type 0} where
           → p (getD (x ∷ xs) (cond b 0 (suc (firstAt p xs))) d) ≡ true
       go true e t ih = e
       go false e t ih = ih (omega arith)
+
+  -- a search for what some slot passes ends at a slot that passes
+  pub firstAt-found : (p : A → Bool) (l : List A) (d : A) (i : ℕ) → p d ≡ false → p (getD l i d) ≡ true → p (getD l (firstAt p l) d) ≡ true
+  firstAt-found p l d i n h =
+      by-test (ltb (firstAt p l) (length l)) (λ t. firstAt-short p l d (ltb-true (firstAt p l) (length l) t))
+      (λ f. absurd (false≢true (sym (firstAt-none p l d n (ltb-false (firstAt p l) (length l) f) i) ∙ h)))
 
   -- what the tests of a search say, in a table of n slots
   module _ (p : A → Bool) (l : List A) (d : A) (n : ℕ) (size : length l ≡ n) where

@@ -1,8 +1,8 @@
 -- Laws of tables: of a search, of a store, and of what is done to every slot.
 -- Assumes nothing.
-use Prim.Native.Nat.{ℕ, zero, suc, _+_, _≤_, _<_}
+use Prim.Native.Nat.{ℕ, zero, suc, _≤_, _<_}
 use native.Mathlib.Omega.{arith}
-use mathlib.Core.Path.{_≡_, refl, sym, _∙_, ap, ap₂, subst}
+use mathlib.Core.Path.{_≡_, refl, _∙_, ap, ap₂}
 use mathlib.Core.Logic.{_≢_, _⊎_, inl, inr}
 use mathlib.Core.Bool.{Bool, true, false, cond}
 use mathlib.Core.List.{List, [], _∷_, map}
@@ -35,16 +35,6 @@ module _ {A : Type 0} where
   all-set P (x ∷ xs) d (suc j) a q h p (suc i) =
       all-set (λ n. P (suc n)) xs d j a (λ n. q (suc n)) (λ n ne. h (suc n) (λ e. ne (omega arith))) p i
 
-  -- the slot that a search ends at passes the test, if what stands past the end does
-  pub firstAt-passes : (p : A → Bool) (l : List A) (d : A) → p d ≡ true → p (getD l (firstAt p l) d) ≡ true
-  unfolding firstAt
-  firstAt-passes p [] d h = h
-  firstAt-passes p (x ∷ xs) d h = go (p x) refl (firstAt-passes p xs d h)
-    where
-      go : (b : Bool) → p x ≡ b → p (getD xs (firstAt p xs) d) ≡ true → p (getD (x ∷ xs) (cond b 0 (suc (firstAt p xs))) d) ≡ true
-      go true e ih = e
-      go false e ih = ih
-
   -- a search ends at a slot that passes, or at what stands past the end
   pub firstAt-ends : (p : A → Bool) (l : List A) (d : A) → (p (getD l (firstAt p l) d) ≡ true) ⊎ (getD l (firstAt p l) d ≡ d)
   unfolding firstAt
@@ -55,6 +45,14 @@ module _ {A : Type 0} where
           → (p (getD (x ∷ xs) (cond b 0 (suc (firstAt p xs))) d) ≡ true) ⊎ (getD (x ∷ xs) (cond b 0 (suc (firstAt p xs))) d ≡ d)
       go true e ih = inl e
       go false e ih = ih
+
+  -- it passes, if what stands past the end does
+  pub firstAt-passes : (p : A → Bool) (l : List A) (d : A) → p d ≡ true → p (getD l (firstAt p l) d) ≡ true
+  firstAt-passes p l d h = go (firstAt-ends p l d)
+    where
+      go : (p (getD l (firstAt p l) d) ≡ true) ⊎ (getD l (firstAt p l) d ≡ d) → p (getD l (firstAt p l) d) ≡ true
+      go (inl e) = e
+      go (inr e) = ap p e ∙ h
 
   -- where a search comes to the end, no slot passes
   pub firstAt-none : (p : A → Bool) (l : List A) (d : A) → p d ≡ false → length l ≤ firstAt p l → (i : ℕ) → p (getD l i d) ≡ false

@@ -1,15 +1,15 @@
 -- Blocks of a list, also one that the list ends in the middle of. Assumes nothing.
 use mathlib.Core.Path.{_≡_, refl, sym, ap, ap₂, _∙_}
-use mathlib.Core.List.{List, [], _∷_, _++_, append-assoc, append-nil}
-use Prim.Native.Nat.{ℕ, zero, suc, _+_, _*_, _-_, _≤_, _<_}
-use native.Mathlib.Nat.{mul-suc, add-assoc}
+use mathlib.Core.List.{List, _++_}
+use Prim.Native.Nat.{ℕ, suc, _+_, _-_, _≤_, _<_}
 use native.Mathlib.Decide.{decLt}
 use native.Mathlib.Numerals.{add-one, add-two, add-three}
 use native.Mathlib.Omega.{arith}
-use lib.Dec.{lit<}
 use lib.ListN.{length, take, drop, getD, replicate, length-append, length-take, length-drop, List·getD-append, List·getD-eq-default}
-use lib.Seq.{take-at, take-add, take-all, take-take, drop-append-le, getD-take, drop-cons, drop-drop, drop-append-add, getD-append-add, getD-drop}
-use Rattle.aes.specs.Bytes.{putAt, wordBytes, stateBytes}
+use lib.Seq.{take-at, take-add, take-take, drop-append-le, getD-take, drop-cons, drop-drop, getD-append-add}
+use Rattle.lists.proofs.Tables.{getD-any}
+use Rattle.lists.proofs.Slots.{all-same}
+use Rattle.aes.specs.Bytes.{wordBytes, stateBytes}
 use Rattle.field.specs.Field.{_⊕_}
 use Rattle.aes.specs.Words.{wordAt, addWord}
 use Rattle.aes.specs.States.{addRoundKey, stateAt}
@@ -17,6 +17,7 @@ use Rattle.modes.specs.Cts.{filledWord, filled}
 use Rattle.field.proofs.Xor.{zero-⊕}
 use Rattle.aes.specs.declared.Word.{Word}
 use Rattle.aes.specs.declared.State.{State}
+use Rattle.aes.proofs.Columns.{word-eq}
 use Rattle.aes.proofs.Seams.{front, length-state}
 
 -- ---- blocks of a list
@@ -80,13 +81,8 @@ padded l j =
       | no h ↦
           let e : length l + (j - length l) ≡ j = omega (arith, h) in
           let z : length l ≤ j = omega (arith, h) in
-          ap (λ (k : ℕ). getD (l ++ replicate 16 0) k 0) (sym e) ∙ getD-append-add l (replicate 16 0) (j - length l) 0 ∙ zeros 16 (j - length l) ∙ sym (List·getD-eq-default l 0 z)
+          ap (λ (k : ℕ). getD (l ++ replicate 16 0) k 0) (sym e) ∙ getD-append-add l (replicate 16 0) (j - length l) 0 ∙ all-same 16 (j - length l) 0 ∙ sym (List·getD-eq-default l 0 z)
     ]
-  where
-    zeros : (n k : ℕ) → _≡_ {A = ℕ} (getD (replicate n 0) k 0) 0
-    zeros zero k = refl
-    zeros (suc n) zero = refl
-    zeros (suc n) (suc k) = zeros n k
 
 padded-at : (l : List ℕ) (n : ℕ) → stateAt (l ++ replicate 16 0) n ≡ stateAt l n
 unfolding stateAt wordAt
@@ -101,31 +97,21 @@ take-last l n h g =
     ∙ take-take (length l - n) 16 (drop n P) (omega arith) ∙ ap (take (length l - n)) (drop-append-le n l (replicate 16 0) h)
     ∙ take-at (drop n l) (replicate 16 0) (length l - n) d
 
--- what is read in a list is there whatever is read past its end
-pub getD-any : (B : List ℕ) (j : ℕ) → j < length B → (x : ℕ) → getD B j x ≡ getD B j 0
-getD-any [] j h x = absurd (omega arith)
-getD-any (b ∷ B) zero h x = refl
-getD-any (b ∷ B) (suc j) h x = getD-any B j (omega arith) x
-
--- a byte that was cs3Encrypt, or that was added to 0 and so is there again
+-- a byte that was stolen, or that was added to 0 and so is there again
 byte-filled : (A B l : List ℕ) (n d : ℕ) → length A ≡ n → length l ≡ n + d → (k j : ℕ) → k ≡ n + j → j < length B
     → getD (A ++ take d B) k (getD l k 0 ⊕ getD B j 0) ≡ getD B j 0
 byte-filled A B l n d ea el k j e h =
     let m : length A + j ≡ k = omega arith in
     ap (λ (i : ℕ). getD (A ++ take d B) i (getD l k 0 ⊕ getD B j 0)) (sym m) ∙ getD-append-add A (take d B) j (getD l k 0 ⊕ getD B j 0)
     ∙ elim (decLt j d) [
-      | yes g ↦ getD-take d B j (getD l k 0 ⊕ getD B j 0) g ∙ getD-any B j h (getD l k 0 ⊕ getD B j 0)
+      | yes g ↦ getD-take d B j (getD l k 0 ⊕ getD B j 0) g ∙ getD-any B j (getD l k 0 ⊕ getD B j 0) 0 h
       | no g ↦
           let z : length l ≤ k = omega (arith, g) in
           let y : length (take d B) ≤ j = simp length-take (omega (arith, g)) in
           List·getD-eq-default (take d B) (getD l k 0 ⊕ getD B j 0) y ∙ ap (λ (x : ℕ). x ⊕ getD B j 0) (List·getD-eq-default l 0 z) ∙ zero-⊕ (getD B j 0)
     ]
 
--- words and states by their parts
-word-eq : {a a′ b b′ c c′ d d′ : ℕ} → a ≡ a′ → b ≡ b′ → c ≡ c′ → d ≡ d′
-    → _≡_ {A = Word} (record { r0 = a; r1 = b; r2 = c; r3 = d }) (record { r0 = a′; r1 = b′; r2 = c′; r3 = d′ })
-word-eq p q r s = cc
-
+-- a state by its words
 state-eq : {a a′ b b′ c c′ d d′ : Word} → a ≡ a′ → b ≡ b′ → c ≡ c′ → d ≡ d′
     → _≡_ {A = State} (record { c0 = a; c1 = b; c2 = c; c3 = d }) (record { c0 = a′; c1 = b′; c2 = c′; c3 = d′ })
 state-eq p q r s = cc
@@ -137,7 +123,7 @@ word-again A B l n d ea el k j e h =
     word-eq (byte-filled A B l n d ea el k j e (omega arith)) (byte-filled A B l n d ea el (k + 1) (j + 1) (omega arith) (omega arith))
     (byte-filled A B l n d ea el (k + 2) (j + 2) (omega arith) (omega arith)) (byte-filled A B l n d ea el (k + 3) (j + 3) (omega arith) (omega arith))
 
--- the block that was cs3Encrypt from, put together again, word by word
+-- the block that was stolen from, put together again, word by word
 word-filled : (A B l : List ℕ) (n d : ℕ) → length A ≡ n → length l ≡ n + d → (k j : ℕ) (v : Word) → k ≡ n + j → j + 4 ≤ length B → v ≡ wordAt B j
     → filledWord (A ++ take d B) k (addWord (wordAt l k) v) ≡ v
 word-filled A B l n d ea el k j v e h ev = ap (λ (u : Word). filledWord (A ++ take d B) k (addWord (wordAt l k) u)) ev ∙ same ∙ sym ev

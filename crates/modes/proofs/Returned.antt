@@ -10,13 +10,14 @@ use Rattle.aes.specs.Words.{wordAt}
 use Rattle.aes.specs.States.{addRoundKey, stateAt}
 use Rattle.aes.specs.Bytes.{stateBytes}
 use Rattle.lists.specs.Bytes.{ByteList}
-use Rattle.aes.specs.Cipher.{cipher, invCipher}
+use Rattle.aes.specs.Cipher.{invCipher}
 use Rattle.aes.specs.declared.Word.{Word}
 use Rattle.aes.specs.declared.State.{State}
 use Rattle.aes.proofs.Seams.{length-state}
 use Rattle.aes.proofs.ByteStates.{ByteWord, ByteState, addRoundKey-bytes, cipher-bytes, invCipher-bytes}
 use Rattle.aes.proofs.Inverse.{added-twice, invCipher-cipher}
-use Rattle.aes.proofs.Spread.{append-bytes, take-bytes, stateBytes-bytes, stateAt-bytes}
+use Rattle.lists.proofs.ByteStrings.{append-bytes, take-bytes}
+use Rattle.aes.proofs.Spread.{stateBytes-bytes, stateAt-bytes}
 use Rattle.modes.specs.Walk.{carried, walked}
 use Rattle.modes.specs.Cts.{cbcStep, cbcNext, cbcInvStep, cbcInvNext, lastTwo, invLastTwo, filledWord, filled, cs3Encrypt, cs3Decrypt, cbcCs3Encrypt, cbcCs3Decrypt}
 use Rattle.modes.proofs.Walks.{length-walked, walked-bytes}
@@ -167,7 +168,7 @@ module _ (w : List ℕ) (key-bytes : ByteList w) (n : ℕ) where
       a-bytes : ByteState a
       a-bytes = step-bytes t (stateAt l (16 * m)) (carried-bytes m) (stateAt-bytes l bytes (16 * m))
 
-      -- the text's last block, added to the block that was cs3Encrypt from
+      -- the text's last block, added to the block that was stolen from
       y-is : invCipher w n (stateAt L (16 * m)) ≡ addRoundKey q a
       y-is =
           ap (invCipher w n) (block-between A (take d (stateBytes a)) (cbcStep w n a q) (16 * m) (length-walked (cbcStep w n) cbcNext l c m))

@@ -1,22 +1,20 @@
 -- One turn of a loop that works through a buffer block by block, for any mode. Assumes nothing.
 use mathlib.Core.Path.{_≡_, refl, sym, ap, ap₂, _∙_}
-use mathlib.Core.List.{List, [], _∷_, _++_, append-assoc, append-nil}
-use Prim.Native.Nat.{ℕ, zero, suc, _+_, _*_, _-_, _≤_, _<_}
+use mathlib.Core.List.{List, _++_, append-nil}
+use Prim.Native.Nat.{ℕ, zero, suc, _+_, _*_, _-_, _≤_}
 use native.Mathlib.Nat.{mul-suc}
 use native.Mathlib.Numerals.{add-one}
 use native.Mathlib.Omega.{arith}
-use lib.ListN.{length, take, drop, getD, length-append, drop-of-length-le}
-use lib.Seq.{take-at, drop-drop, drop-append-add, getD-append-add, getD-drop}
-use Rattle.aes.specs.Bytes.{putAt, wordBytes, stateBytes}
+use lib.ListN.{length, drop, length-append, drop-of-length-le}
+use Rattle.aes.specs.Bytes.{putAt, stateBytes}
 use Rattle.lists.specs.Bytes.{ByteList}
-use Rattle.aes.specs.Words.{wordAt}
 use Rattle.aes.specs.States.{stateAt}
-use Rattle.aes.specs.declared.Word.{Word}
 use Rattle.aes.specs.declared.State.{State}
 use Rattle.modes.specs.Walk.{carried, walked}
 use Rattle.aes.proofs.Seams.{seam-at, put-seam, length-state}
 use Rattle.aes.proofs.ByteStates.{ByteState}
-use Rattle.aes.proofs.Spread.{nil-bytes, append-bytes, stateBytes-bytes}
+use Rattle.lists.proofs.ByteStrings.{nil-bytes, append-bytes}
+use Rattle.aes.proofs.Spread.{stateBytes-bytes}
 
 module _ (step : State → State → State) (next : State → State → State → State) (l : List ℕ) (c : State) where
   pub length-walked : (i : ℕ) → length (walked step next l c i) ≡ 16 * i

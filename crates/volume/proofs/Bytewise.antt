@@ -1,12 +1,12 @@
 -- The bytes of the keys and nonces on a volume are bytes, after every request: each is zeros or was handed in by a request.
 -- Assumes nothing.
 use Prim.Native.Nat.{ℕ, zero, suc, _-_}
-use native.Mathlib.Omega.{arith}
 use mathlib.Core.Path.{_≡_, refl, sym, ap, subst}
 use mathlib.Core.Logic.{_⊎_, inl, inr}
-use mathlib.Core.List.{List, [], _∷_, _++_, List·Memᴰ, List·Memᴰ·not-nil, List·Memᴰ·cases-cons, List·Memᴰ·head, List·Memᴰ·tail}
-use lib.ListN.{length, getD, set, take}
+use mathlib.Core.List.{List, [], _∷_, List·Memᴰ, List·Memᴰ·not-nil, List·Memᴰ·cases-cons, List·Memᴰ·head, List·Memᴰ·tail}
+use lib.ListN.{length, getD, set}
 use Rattle.lists.specs.Bytes.{Bytes, ByteList, zeros}
+use Rattle.lists.proofs.ByteStrings.{append-bytes, zeros-bytes}
 use Rattle.lists.proofs.Tables.{all-set}
 use Rattle.lists.proofs.Slots.{by-cond, all-same}
 use Rattle.errno.specs.declared.Checked.{Checked}
@@ -24,25 +24,6 @@ use Rattle.volume.specs.declared.Key.{Key}
 use Rattle.volume.specs.declared.Inode.{Inode}
 use Rattle.volume.specs.declared.Volume.{Volume}
 
--- ---- bytes
-
-pub bytes-take : (n : ℕ) (x : Bytes) → ByteList x → ByteList (take n x)
-bytes-take zero x h i = omega arith
-bytes-take (suc n) [] h i = h i
-bytes-take (suc n) (x ∷ xs) h zero = h 0
-bytes-take (suc n) (x ∷ xs) h (suc i) = bytes-take n xs (λ j. h (suc j)) i
-
-pub bytes-zeros : (n : ℕ) → ByteList (zeros n)
-unfolding zeros
-bytes-zeros zero i = omega arith
-bytes-zeros (suc n) zero = omega arith
-bytes-zeros (suc n) (suc i) = bytes-zeros n i
-
-pub bytes-append : (x y : Bytes) → ByteList x → ByteList y → ByteList (x ++ y)
-bytes-append [] y h k i = k i
-bytes-append (a ∷ x) y h k zero = h 0
-bytes-append (a ∷ x) y h k (suc i) = bytes-append x y (λ j. h (suc j)) k i
-
 -- ---- one store
 
 abbrev KeyBytes : Key → Type 0
@@ -52,23 +33,23 @@ abbrev NonceBytes : Inode → Type 0
 NonceBytes n = ByteList (n .context .nonce)
 
 set-key : (v : Volume) → Bytewise v → (j : ℕ) (key : Key) → KeyBytes key → (k : ℕ) → KeyBytes (getD (set (v .keys) j key) k noKey)
-set-key v w j key h = all-set (λ i x. KeyBytes x) (v .keys) noKey j key (λ i. bytes-zeros 64) (λ i ne. w .keys i) h
+set-key v w j key h = all-set (λ i x. KeyBytes x) (v .keys) noKey j key (λ i. zeros-bytes 64) (λ i ne. w .keys i) h
 
 set-inode : (v : Volume) → Bytewise v → (j : ℕ) (node : Inode) → NonceBytes node → (i : ℕ) → NonceBytes (getD (set (v .inodes) j node) i noInode)
-set-inode v w j node h = all-set (λ i x. NonceBytes x) (v .inodes) noInode j node (λ i. bytes-zeros 16) (λ i ne. w .nonces i) h
+set-inode v w j node h = all-set (λ i x. NonceBytes x) (v .inodes) noInode j node (λ i. zeros-bytes 16) (λ i ne. w .nonces i) h
 
 -- ---- requests
 
 pub fresh-bytes : Bytewise fresh
 unfolding fresh
 fresh-bytes = record {
-  keys = λ k. subst KeyBytes (sym (all-same keySlots k noKey)) (bytes-zeros 64);
+  keys = λ k. subst KeyBytes (sym (all-same keySlots k noKey)) (zeros-bytes 64);
   nonces = λ i. node i;
 }
   where
     node : (i : ℕ) → NonceBytes (nodeAt fresh i)
-    node zero = bytes-zeros 16
-    node (suc i) = subst NonceBytes (sym (all-same (inodeSlots - 1) i noInode)) (bytes-zeros 16)
+    node zero = zeros-bytes 16
+    node (suc i) = subst NonceBytes (sym (all-same (inodeSlots - 1) i noInode)) (zeros-bytes 16)
 
 settle-bytes : (v : Volume) (b : Bytes) (o : Outcome) → Bytewise v → (k : Checked) → Bytewise (o .volume) → Bytewise ((settle v b k o) .volume)
 unfolding settle
@@ -79,23 +60,23 @@ module _ (C : Cipher) where
   effect-bytes : (v : Volume) → Bytewise v → (r : Request) → Typed r → Bytewise ((effect C v r) .volume)
   unfolding effect childOf withoutUnheld
   effect-bytes v w (addKey d k) t = record {
-    keys = set-key v w (freeKeySlot v) (keySlot d k) (bytes-append k (zeros (64 - length k)) (t .2) (bytes-zeros (64 - length k)));
+    keys = set-key v w (freeKeySlot v) (keySlot d k) (append-bytes k (zeros (64 - length k)) (t .2) (zeros-bytes (64 - length k)));
     nonces = w .nonces;
   }
-  effect-bytes v w (removeKey d) t = record { keys = set-key v w (keySlotOf v d) noKey (bytes-zeros 64); nonces = w .nonces }
+  effect-bytes v w (removeKey d) t = record { keys = set-key v w (keySlotOf v d) noKey (zeros-bytes 64); nonces = w .nonces }
   effect-bytes v w (setPolicy i p x) t =
       by-cond Bytewise (inodeAt v i .encrypted) _ _ (λ e. w) (λ e. record { keys = w .keys; nonces = set-inode v w (i .0) _ (t .2) })
   effect-bytes v w (getPolicy i) t = w
   effect-bytes v w (create p kind n x) t = record {
     keys = w .keys;
-    nonces = set-inode v w (freeInode v) _ (by-cond NonceBytes (isNonceNeeded (inodeAt v p) kind) _ _ (λ e. t .2) (λ e. bytes-zeros 16));
+    nonces = set-inode v w (freeInode v) _ (by-cond NonceBytes (isNonceNeeded (inodeAt v p) kind) _ _ (λ e. t .2) (λ e. zeros-bytes 16));
   }
   effect-bytes v w (link i p n) t = record { keys = w .keys; nonces = w .nonces }
   effect-bytes v w (rename e p n) t = record { keys = w .keys; nonces = w .nonces }
   effect-bytes v w (exchange a b) t = record { keys = w .keys; nonces = w .nonces }
   effect-bytes v w (remove e) t = record {
     keys = w .keys;
-    nonces = by-cond (λ (is : List Inode). (i : ℕ) → NonceBytes (getD is i noInode)) (isHeld _ _) _ _ (λ h. w .nonces) (λ h. set-inode v w _ noInode (bytes-zeros 16));
+    nonces = by-cond (λ (is : List Inode). (i : ℕ) → NonceBytes (getD is i noInode)) (isHeld _ _) _ _ (λ h. w .nonces) (λ h. set-inode v w _ noInode (zeros-bytes 16));
   }
   effect-bytes v w (find p n) t = w
   effect-bytes v w (show e b) t = w

@@ -40,7 +40,7 @@ use Rattle.volume.specs.declared.Form.the-variants.{Plain, Decrypted, En
 use Rattle.volume.proofs.SoundInvariant.{pass}
 use Rattle.volume.proofs.Soundness.{fresh-sound, fresh-unused, sound-kept}
 use Rattle.volume.proofs.Bytewise.{fresh-bytes, bytewise-kept}
-use Rattle.volume.proofs.SealedOpens.{was-fine, was-done, readable, shows}
+use Rattle.volume.proofs.SealedOpens.{was-fine, was-done, form-of, len-of, readable, shows}
 use Rattle.volume.proofs.NamesSince.{Since, stayed, gained, step-since}
 
 module _ (C : Cipher) where
@@ -162,12 +162,6 @@ module _ (C : Cipher) where
           with-key true true f = refl
           with-key true false f = absurd (f refl)
           with-key false b f = refl
-
-          form-of : {s t : ShownEntry} → shown s ≡ shown t → s .form ≡ t .form
-          form-of q = cc
-
-          len-of : {s t : ShownEntry} → shown s ≡ shown t → s .len ≡ t .len
-          len-of q = cc
 
     shown-volume : (v : Volume) (e : EntryNumber) (b : Bytes) → (step C v (show e b)) .volume ≡ v
     unfolding step settle effect

@@ -12,6 +12,7 @@ use lib.Seq.{getD-set-same, getD-set-other, take-append-seam}
 use borrow.Author.Tests.{le-ltb}
 use Rattle.lists.specs.Bytes.{Bytes, ByteList}
 use Rattle.lists.proofs.Tests.{not-false, and-known, if-true, if-false, eqb-other}
+use Rattle.lists.proofs.ByteStrings.{take-bytes}
 use Rattle.lists.proofs.Slots.{by-test, by-cond, search-room}
 use Rattle.errno.specs.Refusals.{_⇒_, _>>_, isFine}
 use Rattle.errno.specs.declared.Errno.the-variants.{ENOENT, EINVAL, ENOKEY, EPERM, EEXIST, ENOTUNIQ, ENOSPC, ERANGE, EUCLEAN}
@@ -45,7 +46,7 @@ use Rattle.volume.proofs.SoundCore.{slot-name}
 use Rattle.volume.proofs.SoundClimb.{num}
 use Rattle.volume.proofs.SoundInvariant.{pass, is-directory, one≢zero, used-range, name-ok}
 use Rattle.volume.proofs.SoundCreate.{free-kind}
-use Rattle.volume.proofs.Bytewise.{bytes-take, bytewise-kept}
+use Rattle.volume.proofs.Bytewise.{bytewise-kept}
 
 -- ---- a request that was not refused passed its checks
 
@@ -70,6 +71,12 @@ module _ (C : Cipher) (v : Volume) (r : Request) (a : Answer) (na : (m : ℕ) �
 done-by : (C : Cipher) (v : Volume) (r : Request) → check C v r ≡ Fine → step C v r ≡ effect C v r
 unfolding step
 done-by C v r h = settled v (lent r) (effect C v r) (check C v r) h
+
+pub form-of : {s t : ShownEntry} → shown s ≡ shown t → s .form ≡ t .form
+form-of q = cc
+
+pub len-of : {s t : ShownEntry} → shown s ≡ shown t → s .len ≡ t .len
+len-of q = cc
 
 -- ---- what is read of a volume by the key of an inode
 
@@ -113,7 +120,7 @@ module _ (C : Cipher) (law : Lawful C) where
   derived-bytes v w node hx =
       let d = descriptorOf node in
       let k = keyOf v d in
-      law .bytes-derive (masterKey v d) (node .context .nonce) (bytes-take (k .len) (k .bytes) (w .keys (keySlotOf v d))) hx
+      law .bytes-derive (masterKey v d) (node .context .nonce) (take-bytes (k .len) (k .bytes) (w .keys (keySlotOf v d))) hx
 
   -- the check of a block reads the inode and its key alone
   block-same : (v w : Volume) (i : InodeNumber) (n : ℕ) → inodeAt w i ≡ inodeAt v i → SameKey v w (inodeAt v i) → blockCheck w i n ≡ blockCheck v i n
@@ -151,7 +158,7 @@ module _ (C : Cipher) (law : Lawful C) where
 
     key-bytes : ByteList (nameKey C v dir)
     unfolding nameKey
-    key-bytes = bytes-take (nameKeySize (dir .context .policy)) (derivedKey C v dir) (derived-bytes v w dir hx)
+    key-bytes = take-bytes (nameKeySize (dir .context .policy)) (derivedKey C v dir) (derived-bytes v w dir hx)
 
     is-present : dir .encrypted ≡ true → keyPresent v dir ≡ true
     unfolding lacksKey
@@ -352,12 +359,6 @@ module _ (C : Cipher) (v w : Volume) (e : EntryNumber) (qx : SameName v w e) (qd
         (λ q. r .2 (sym s ∙ sym (form-same C v w dir k) ∙ ap (formIn w) (sym qd) ∙ q)),
         ap (λ (o : Outcome). take (length nw) (o .buffer)) dw ∙ take-append-seam nw (drop (length nw) b) ∙ shown-later ∙ name,
       )
-    where
-      form-of : {s t : ShownEntry} → shown s ≡ shown t → s .form ≡ t .form
-      form-of q = cc
-
-      len-of : {s t : ShownEntry} → shown s ≡ shown t → s .len ≡ t .len
-      len-of q = cc
 
 pub sealed-opens : (C : Cipher) → Lawful C → SealedOpens C
 sealed-opens C law = record {

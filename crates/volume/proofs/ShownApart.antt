@@ -9,6 +9,7 @@ use mathlib.Core.List.{List, [], _∷_, List·Memᴰ, List·Memᴰ·not-nil, Lis
 use lib.ListN.{length, getD, set, take}
 use lib.Seq.{take-append-seam}
 use Rattle.lists.specs.Bytes.{Bytes, ByteList, zeros}
+use Rattle.lists.proofs.ByteStrings.{append-bytes, take-bytes, zeros-bytes}
 use Rattle.lists.proofs.Tables.{all-set}
 use Rattle.lists.proofs.Slots.{by-eq, by-cond, all-same}
 use Rattle.errno.specs.declared.Errno.the-variants.{ERANGE, ENOENT}
@@ -40,7 +41,7 @@ use Rattle.volume.specs.declared.ShownEntry.{ShownEntry}
 use Rattle.volume.specs.declared.Form.the-variants.{Plain, Decrypted, Encoded}
 use Rattle.volume.proofs.SoundInvariant.{pass, used-range}
 use Rattle.volume.proofs.Soundness.{sound}
-use Rattle.volume.proofs.Bytewise.{bytes-take, bytes-zeros, bytes-append, fresh-bytes, bytewise-kept}
+use Rattle.volume.proofs.Bytewise.{fresh-bytes, bytewise-kept}
 use Rattle.volume.proofs.SealedOpens.{was-fine, was-done, derived-bytes}
 
 -- ---- what show answers without the key
@@ -101,7 +102,7 @@ number-same a b q i = record { 0 = q i }
 
 module _ (C : Cipher) (v : Volume) (s : Sound v) (w : NamesBytewise v) where
   name-bytes : (e : ℕ) → ByteList (nameOf (slotAt v e))
-  name-bytes e = bytes-take (slotAt v e .len) (slotAt v e .name) (w e)
+  name-bytes e = take-bytes (slotAt v e .len) (slotAt v e .name) (w e)
 
   in-table : (e : ℕ) → Used v e → e < 256
   in-table e u = omega (arith, used-range (v .entries) e u, s .entry-slots)
@@ -135,11 +136,11 @@ abbrev AllBytes : List Entry → Type 0
 AllBytes es = (e : ℕ) → ByteList ((getD es e noEntry) .name)
 
 set-entry : (es : List Entry) → AllBytes es → (j : ℕ) (x : Entry) → ByteList (x .name) → AllBytes (set es j x)
-set-entry es w j x h = all-set (λ i y. ByteList (y .name)) es noEntry j x (λ i. bytes-zeros 255) (λ i ne. w i) h
+set-entry es w j x h = all-set (λ i y. ByteList (y .name)) es noEntry j x (λ i. zeros-bytes 255) (λ i ne. w i) h
 
 fresh-names : NamesBytewise fresh
 unfolding fresh
-fresh-names e = subst (λ (x : Entry). ByteList (x .name)) (sym (all-same entrySlots e noEntry)) (bytes-zeros 255)
+fresh-names e = subst (λ (x : Entry). ByteList (x .name)) (sym (all-same entrySlots e noEntry)) (zeros-bytes 255)
 
 settle-names : (v : Volume) (b : Bytes) (o : Outcome) → NamesBytewise v → (k : Checked) → NamesBytewise (o .volume) → NamesBytewise ((settle v b k o) .volume)
 unfolding settle
@@ -152,7 +153,7 @@ module _ (C : Cipher) (law : Lawful C) where
   stored-bytes v w p n h =
       let dir = inodeAt v p in
       let key : ByteList (nameKey C v dir) =
-      bytes-take (nameKeySize (dir .context .policy)) (derivedKey C v dir) (derived-bytes C law v w dir (w .nonces (p .0))) in
+      take-bytes (nameKeySize (dir .context .policy)) (derivedKey C v dir) (derived-bytes C law v w dir (w .nonces (p .0))) in
       by-cond ByteList (dir .encrypted) _ _ (λ t. law .bytes-encryptName _ _ key (padded-bytes (dir .context .policy .flags) n h)) (λ f. h)
 
   put-name : (v : Volume) → Bytewise v → NamesBytewise v → (j : ℕ) (p i : InodeNumber) (n : Bytes) → ByteList n
@@ -160,7 +161,7 @@ module _ (C : Cipher) (law : Lawful C) where
   put-name v w u j p i n h =
       let s = stored C v (inodeAt v p) n in
       let z : ℕ = 255 - length s in
-      set-entry (v .entries) u j (entrySlot p i s) (bytes-append s (zeros z) (stored-bytes v w p n h) (bytes-zeros z))
+      set-entry (v .entries) u j (entrySlot p i s) (append-bytes s (zeros z) (stored-bytes v w p n h) (zeros-bytes z))
 
   effect-names : (v : Volume) → Bytewise v → NamesBytewise v → (r : Request) → Typed r → NamesBytewise ((effect C v r) .volume)
   unfolding effect
@@ -175,7 +176,7 @@ module _ (C : Cipher) (law : Lawful C) where
       let one = withInode (entryAt v a) (entryAt v b .inode) in
       let other = withInode (entryAt v b) (entryAt v a .inode) in
       set-entry (set (v .entries) (a .0) one) (set-entry (v .entries) u (a .0) one (u (a .0))) (b .0) other (u (b .0))
-  effect-names v w u (remove e) t = set-entry (v .entries) u (e .0) noEntry (bytes-zeros 255)
+  effect-names v w u (remove e) t = set-entry (v .entries) u (e .0) noEntry (zeros-bytes 255)
   effect-names v w u (find p n) t = u
   effect-names v w u (show e b) t = u
   effect-names v w u (seal i n b) t = u

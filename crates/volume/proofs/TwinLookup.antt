@@ -5,12 +5,14 @@ use native.Mathlib.Omega.{arith}
 use mathlib.Core.Path.{_≡_, refl, sym, _∙_, ap, subst}
 use mathlib.Core.Logic.{_⊎_, inl, inr}
 use mathlib.Core.Bool.{Bool, true, false, cond, not, _&&_, false≢true}
-use mathlib.Core.List.{List, [], _∷_, _++_, map}
+use mathlib.Core.List.{List, _++_, map}
 use lib.ListN.{length, getD, take, drop, List·getD-map}
 use lib.Seq.{take-at}
 use lib.Dec.{eqb}
+use borrow.Author.Tests.{not-true}
 use Rattle.lists.specs.Bytes.{Bytes, ByteList, same, firstAt, isEmpty}
 use Rattle.lists.proofs.Tests.{not-false, and-left, and-right, and-cong, and-known, if-true, if-false, eqb-true, eqb-other, same-eq, same-inj}
+use Rattle.lists.proofs.ByteStrings.{take-bytes}
 use Rattle.lists.proofs.Tables.{firstAt-map, firstAt-ends}
 use Rattle.errno.specs.declared.Checked.the-variants.{Fine}
 use Rattle.errno.proofs.Chains.{skip}
@@ -37,12 +39,6 @@ use Rattle.volume.proofs.Twin.{identity, Setting, Alike, test, both-fin
 -- ---- names
 
 module _ (S : Setting) where
-  take-bytes : (n : ℕ) (x : Bytes) → ByteList x → ByteList (take n x)
-  take-bytes zero x h i = omega arith
-  take-bytes (suc n) [] h i = omega arith
-  take-bytes (suc n) (x ∷ xs) h zero = h 0
-  take-bytes (suc n) (x ∷ xs) h (suc i) = take-bytes n xs (λ j. h (suc j)) i
-
   keyFor-bytes : (dir : Inode) → ByteList (dir .context .nonce) → ByteList (keyFor S dir)
   unfolding keyFor
   keyFor-bytes dir h =
@@ -218,10 +214,6 @@ module _ (S : Setting) where
         let w = subst (λ (dir : Inode). EntryOk S g dir i x) d (ok .entries-ok i u) in
         ap (λ (y : Bytes). same y (encName S (inodeAt v p) s)) (entry-name (v .inodes) (inodeAt v p) x u d (w .is-sized))
         ∙ enc-same (inodeAt v p) (nameOf x) s (w .storable) h
-      where
-        not-true : (b : Bool) → not b ≡ true → b ≡ false
-        not-true true e = absurd (false≢true e)
-        not-true false e = refl
 
     pub entryNamed-twin : (p : InodeNumber) (n : Bytes) → lacksKey v (inodeAt v p) ≡ false → ByteList n
         → entryNamed (enc S v) p (stored (S .cipher) (enc S v) (inodeAt v p) n) ≡ entryNamed v p (stored identity v (inodeAt v p) n)

@@ -19,7 +19,8 @@ use Rattle.fscrypt.specs.Names.{readPadded, nameBytes, packed}
 use Rattle.fscrypt.specs.Encoded.{letters, encoded}
 use Rattle.fscrypt.specs.declared.NameRead.{NameRead}
 use Rattle.fscrypt.proofs.Padding.{readPadded-padded, nameBytes-packed}
-use Rattle.fscrypt.proofs.Shown.{marks, encoded-long, length-short, length-long, length-encoded}
+use Rattle.fscrypt.proofs.Lettering.{length-front}
+use Rattle.fscrypt.proofs.Shown.{marks, encoded-long, length-short, length-encoded}
 use Rattle.volume.specs.Volume.{nameOf}
 use Rattle.volume.specs.Request.{show, Answer, shown, outcome}
 use Rattle.volume.specs.Lookup.{keyPresent, inodeAt, entryAt, isVacant}
@@ -75,10 +76,6 @@ long-twin x y z hx hy hz =
 encoded-twin : (s t : Bytes) (e : ℕ) → length s ≡ length t → LettersTwin (encoded s e) (encoded t e)
 encoded-twin s t e h = go (leb (length s) 160) refl
   where
-    -- how many letters a long one has
-    many : (r : Bytes) → 160 < length r → length (letters (take 160 r)) ≡ 214
-    many r u = omega (arith, length-long r e u, ap length (encoded-long r e u), length-append (letters (take 160 r)) (marks e))
-
     go : (c : Bool) → leb (length s) 160 ≡ c → LettersTwin (encoded s e) (encoded t e)
     go true c =
         let u : length s ≤ 160 = leb-true (length s) 160 c in
@@ -86,7 +83,7 @@ encoded-twin s t e h = go (leb (length s) 160) refl
     go false c =
         let u : 160 < length s = leb-false (length s) 160 c in
         let w : 160 < length t = omega arith in
-        rw (encoded-long s e u, encoded-long t e w) (long-twin (letters (take 160 s)) (letters (take 160 t)) (marks e) (many s u) (many t w) refl)
+        rw (encoded-long s e u, encoded-long t e w) (long-twin (letters (take 160 s)) (letters (take 160 t)) (marks e) (length-front s u) (length-front t w) refl)
 
 -- ---- the names that the two runs show of one entry, and whether they are unreadable
 

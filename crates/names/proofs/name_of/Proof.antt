@@ -1,6 +1,6 @@
 -- `name_of`: the bytes in use, packed anew. Assumes nothing.
 use Rattle.lookup.proofs.Shape.{entry-sized}
-use Rattle.fscrypt.proofs.Shape.{count-take}
+use Rattle.lists.proofs.ByteStrings.{count-take}
 use native.Mathlib.Omega.{arith}
 use borrow.Author.Needs.{needs}
 use Rattle.names.proofs.name_of.Statement.{statement}

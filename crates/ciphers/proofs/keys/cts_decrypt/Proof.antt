@@ -4,7 +4,8 @@ use native.Mathlib.Omega.{arith}
 use mathlib.Core.Path.{_≡_, refl}
 use lib.ListN.{length, take}
 use denote.Ref.{now}
-use Rattle.ciphers.proofs.Schedules.{count-take, under}
+use Rattle.lists.proofs.ByteStrings.{count-take}
+use Rattle.ciphers.proofs.Schedules.{under}
 use Rattle.modes.specs.Cts.{cbcCs3Decrypt}
 use borrow.Author.Needs.{needs}
 use Rattle.ciphers.proofs.keys.cts_decrypt.Statement.{statement}

@@ -4,7 +4,8 @@ use native.Mathlib.Omega.{arith}
 use mathlib.Core.Path.{_≡_, refl}
 use lib.ListN.{length, take}
 use denote.Ref.{now}
-use Rattle.ciphers.proofs.Schedules.{count-take, under-half}
+use Rattle.lists.proofs.ByteStrings.{count-take}
+use Rattle.ciphers.proofs.Schedules.{under-half}
 use Rattle.modes.specs.Xts.{xtsAesEnc}
 use borrow.Author.Needs.{needs}
 use Rattle.ciphers.proofs.keys.xts_encrypt.Statement.{statement}

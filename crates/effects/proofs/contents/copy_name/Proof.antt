@@ -5,7 +5,8 @@ use denote.Ref.{now}
 use borrow.Author.Needs.{needs}
 use Rattle.lists.proofs.Copies.{copied-over}
 use Rattle.fscrypt.specs.Names.{nameBytes}
-use Rattle.fscrypt.proofs.Shape.{name-sized, cut-length, count-take}
+use Rattle.lists.proofs.ByteStrings.{count-take}
+use Rattle.fscrypt.proofs.Shape.{name-sized, cut-length}
 use Rattle.effects.proofs.contents.copy_name.Statement.{statement}
 use Rattle.effects.proofs.contents.copy_name.Tie as tie
 

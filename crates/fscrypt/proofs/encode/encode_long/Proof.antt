@@ -2,7 +2,7 @@
 use denote.Ref.{now}
 use native.Mathlib.Omega.{arith}
 use lib.Seq.{length-take-le}
-use Rattle.fscrypt.proofs.Shape.{count-take}
+use Rattle.lists.proofs.ByteStrings.{count-take}
 use Rattle.fscrypt.proofs.Lettering.{packed-long}
 use borrow.Author.Needs.{needs}
 use Rattle.fscrypt.proofs.encode.encode_long.Statement.{statement}

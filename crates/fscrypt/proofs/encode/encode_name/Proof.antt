@@ -1,6 +1,7 @@
 -- `encode::encode_name` meets its contract: the part of the array that is lent has the name's length. Assumes nothing.
 use native.Mathlib.Omega.{arith}
-use Rattle.fscrypt.proofs.Shape.{name-sized, count-take}
+use Rattle.lists.proofs.ByteStrings.{count-take}
+use Rattle.fscrypt.proofs.Shape.{name-sized}
 use borrow.Author.Needs.{needs}
 use Rattle.fscrypt.proofs.encode.encode_name.Statement.{statement}
 use Rattle.fscrypt.proofs.encode.encode_name.Tie as tie

@@ -1,4 +1,4 @@
--- `encode::letter_at` meets its contract: the law of letter j by its place among four. Assumes nothing.
+-- `encode::letter_at` meets its contract: the law of letter j by its position among four. Assumes nothing.
 use native.Mathlib.Omega.{arith}
 use Rattle.fscrypt.proofs.Lettering.{letters-at-0, letters-at-1, letters-at-2, letters-at-3}
 use borrow.Author.Needs.{needs}
