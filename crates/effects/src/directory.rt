@@ -1,5 +1,4 @@
 // Create, link, rename, exchange, remove, find.
-use crate::keyring;
 use fscrypt::Name;
 use lookup::entries;
 use lookup::inodes;
@@ -40,7 +39,7 @@ fn new_inode(dir: Inode, kind: u64, x: [u8; 16]) -> Inode
     }
     let own = dir.context;
     let p = own.policy;
-    keyring::encrypted_inode(kind as u8, p, x)
+    inodes::encrypted_inode(kind as u8, p, x)
 }
 
 fn new_entry(p: InodeNumber, i: InodeNumber, n: Name) -> Entry

@@ -1,11 +1,8 @@
 // Add key, remove key, set policy, get policy.
 use lookup::inodes;
 use lookup::keyring;
-use policy::Context;
-use policy::Policy;
 use volume::Changed;
 use volume::INODE_SLOTS;
-use volume::Inode;
 use volume::InodeNumber;
 use volume::Key;
 use volume::PolicyOutcome;
@@ -16,7 +13,7 @@ ghost use mathlib.Core.List.{[]};
 ghost use Prim.Native.Nat.{_≤_, _<_};
 ghost use lib.ListN.{length};
 ghost use Rattle.fscrypt.specs.Cipher.{fscrypt};
-ghost use Rattle.volume.specs.Volume.{keySlots, keySlot, encryptedInode};
+ghost use Rattle.volume.specs.Volume.{keySlots, keySlot};
 ghost use Rattle.volume.specs.Request.{outcome, replied, policyAnswered, addKey, removeKey, setPolicy, getPolicy};
 ghost use Rattle.volume.specs.Lookup.{freeKeySlot, keySlotOf};
 ghost use Rattle.volume.specs.Step.{effect};
@@ -66,21 +63,6 @@ pub fn remove_key(v: Volume, d: [u8; 8]) -> Changed
     }
 }
 
-// An inode with a context.
-pub fn encrypted_inode(kind: u8, p: Policy, x: [u8; 16]) -> Inode
-    ensures { λ r. ⌜ r ≡ encryptedInode kind p x ⌝ }
-{
-    let c = Context {
-        policy: p,
-        nonce: x,
-    };
-    Inode {
-        kind: kind,
-        encrypted: true,
-        context: c,
-    }
-}
-
 // An inode that is encrypted already keeps its context.
 pub fn set_policy(v: Volume, i: InodeNumber, bytes: &[u8], x: [u8; 16]) -> Changed
     ensures { λ r. ⌜ outcome (replied (r .answer)) [] (r .volume) ≡ effect fscrypt v (setPolicy i (now (bytes .entry)) x) ⌝ }
@@ -95,7 +77,7 @@ pub fn set_policy(v: Volume, i: InodeNumber, bytes: &[u8], x: [u8; 16]) -> Chang
     }
     let read = policy::read_policy(bytes);
     let p = read.policy;
-    let dir = encrypted_inode(1, p, x);
+    let dir = inodes::encrypted_inode(1, p, x);
     if i.0 < INODE_SLOTS as u64 {
         let k = i.0 as usize;
         next.inodes[k] = dir;

@@ -1,6 +1,6 @@
 // A stored name as it is shown without its key.
 use crate::Name;
-use crate::fname;
+use lists::zeros;
 ghost use mathlib.Core.Path.{_≡_};
 ghost use mathlib.Core.List.{_++_};
 ghost use Prim.Native.Nat.{_+_, _*_, _/_, _≤_, _<_};
@@ -74,7 +74,7 @@ fn encode_long(s: &[u8], entry: u64) -> Name
     requires { ⌜ 160 < length (now s) ⌝ }
     ensures { λ r. ⌜ r ≡ packed (Encoded.encoded (now (s .entry)) entry) ⌝ }
 {
-    let mut bytes = put_letters(fname::zero_name(), 1, &s[..160]);
+    let mut bytes = put_letters(zeros::zeros255(), 1, &s[..160]);
     bytes[0] = 95;
     bytes[215] = lists::hex_digit((entry / 16 % 16) as u8);
     bytes[216] = lists::hex_digit((entry % 16) as u8);
@@ -88,7 +88,7 @@ fn encode_short(s: &[u8], entry: u64) -> Name
     requires { ⌜ length (now s) ≤ 160 ⌝ }
     ensures { λ r. ⌜ r ≡ packed (Encoded.encoded (now (s .entry)) entry) ⌝ }
 {
-    let bytes = put_letters(fname::zero_name(), 0, s);
+    let bytes = put_letters(zeros::zeros255(), 0, s);
     let len = (4 * s.len() + 2) / 3;
     Name {
         len: len as u8,

@@ -4,12 +4,13 @@ use crate::NameRead;
 use crate::keysetup;
 use errno::Checked;
 use errno::Errno;
+use lists::zeros;
 ghost use mathlib.Core.Path.{_≡_};
 ghost use mathlib.Core.List.{[], _++_};
 ghost use Prim.Native.Nat.{_≤_, max};
 ghost use lib.ListN.{length, take, drop};
 ghost use Rattle.errno.specs.Refusals.{isFine};
-ghost use Rattle.lists.specs.Bytes.{zeros, firstAt, laidOver};
+ghost use Rattle.lists.specs.Bytes.{firstAt, laidOver};
 ghost use Rattle.fscrypt.specs.Cipher.{fscrypt, encryptName, decryptName};
 ghost use Rattle.fscrypt.specs.Names.{isNul, isNulOrSlash, isNotNul, isDotName, isBadName, nameCheck, multiple, paddedLength, padded, isAllNul, beforeNul, readPadded, nameBytes, packed};
 ghost use Rattle.fscrypt.specs.Names;
@@ -140,12 +141,6 @@ pub fn padded_length(flags: u8, n: usize) -> usize
 
 // Names by value
 
-pub fn zero_name() -> [u8; 255]
-    ensures { λ r. ⌜ r ≡ zeros 255 ⌝ }
-{
-    [0u8; 255]
-}
-
 // The bytes with the name laid over their start.
 fn put_name(into: [u8; 255], name: &[u8]) -> [u8; 255]
     requires { ⌜ length (now name) ≤ 255 ⌝ }
@@ -161,7 +156,7 @@ pub fn pack(name: &[u8]) -> Name
     requires { ⌜ length (now name) ≤ 255 ⌝ }
     ensures { λ r. ⌜ r ≡ packed (now (name .entry)) ⌝ }
 {
-    let bytes = put_name(zero_name(), name);
+    let bytes = put_name(zeros::zeros255(), name);
     Name {
         len: name.len() as u8,
         bytes: bytes,
@@ -172,7 +167,7 @@ fn pad(flags: u8, name: &[u8]) -> Name
     requires { ⌜ length (now name) ≤ 255 ⌝ }
     ensures { λ r. ⌜ r ≡ packed (padded flags (now (name .entry))) ⌝ }
 {
-    let bytes = put_name(zero_name(), name);
+    let bytes = put_name(zeros::zeros255(), name);
     let n = padded_length(flags, name.len());
     Name {
         len: n as u8,

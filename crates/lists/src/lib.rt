@@ -1,4 +1,6 @@
 // Byte strings and tables: definitions, laws, the one comparison and the one copy; a hex digit.
+pub mod zeros;
+
 ghost use mathlib.Core.Path.{_≡_};
 ghost use Prim.Native.Nat.{_+_, _≤_};
 ghost use lib.ListN.{length};

@@ -1,6 +1,6 @@
 // Directory entries: which has a number, where there is room, which a directory has, which has a name there, and which holds an inode.
-use crate::bytes;
 use fscrypt::Name;
+use lists::zeros;
 use volume::ENTRY_SLOTS;
 use volume::Entry;
 use volume::EntryNumber;
@@ -16,7 +16,7 @@ ghost use Rattle.volume.specs.Lookup.{entryAt, isVacant, freeEntry, isIn, isNam
 pub fn blank_entry() -> Entry
     ensures { λ r. ⌜ r ≡ noEntry ⌝ }
 {
-    let b = bytes::zeros255();
+    let b = zeros::zeros255();
     Entry {
         len: 0,
         parent: InodeNumber(0),

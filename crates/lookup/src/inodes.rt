@@ -1,10 +1,12 @@
 // Inodes: which has a number, where there is room, and which bears a nonce.
+use policy::Context;
+use policy::Policy;
 use volume::INODE_SLOTS;
 use volume::Inode;
 use volume::InodeNumber;
 use volume::Volume;
 ghost use mathlib.Core.Path.{_≡_};
-ghost use Rattle.volume.specs.Volume.{noInode};
+ghost use Rattle.volume.specs.Volume.{noInode, encryptedInode};
 ghost use Rattle.volume.specs.Checks.{isNonceNeeded};
 ghost use Rattle.volume.specs.Lookup.{inodeAt, isFree, freeInode, bearsNonce, nonceHolder, isBorne};
 
@@ -16,6 +18,21 @@ pub fn blank_inode() -> Inode
     Inode {
         kind: 0,
         encrypted: false,
+        context: c,
+    }
+}
+
+// An inode with a context.
+pub fn encrypted_inode(kind: u8, p: Policy, x: [u8; 16]) -> Inode
+    ensures { λ r. ⌜ r ≡ encryptedInode kind p x ⌝ }
+{
+    let c = Context {
+        policy: p,
+        nonce: x,
+    };
+    Inode {
+        kind: kind,
+        encrypted: true,
         context: c,
     }
 }

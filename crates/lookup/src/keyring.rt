@@ -1,5 +1,5 @@
 // The keyring: which key has a descriptor, where there is room, and whether the key of an inode is present.
-use crate::bytes;
+use lists::zeros;
 use volume::Inode;
 use volume::KEY_SLOTS;
 use volume::Key;
@@ -12,8 +12,8 @@ ghost use Rattle.volume.specs.Lookup.{isFreeKey, onKeyring, keySlotOf, freeKeyS
 pub fn blank_key() -> Key
     ensures { λ r. ⌜ r ≡ noKey ⌝ }
 {
-    let d = bytes::zeros8();
-    let b = bytes::zeros64();
+    let d = zeros::zeros8();
+    let b = zeros::zeros64();
     Key {
         len: 0,
         descriptor: d,

@@ -1,30 +1,18 @@
 // The fields of a policy and of a context in their bytes.
 use crate::Policy;
+use lists::zeros;
 ghost use mathlib.Core.Path.{_≡_};
 ghost use Prim.Native.Nat.{_≤_};
 ghost use lib.ListN.{length, take, drop};
 ghost use lib.Seq.{sets};
-ghost use Rattle.lists.specs.Bytes.{zeros};
 ghost use Rattle.policy.specs.Policies.{policyAt, fieldBytes};
-
-pub fn zeros8() -> [u8; 8]
-    ensures { λ r. ⌜ r ≡ zeros 8 ⌝ }
-{
-    [0u8; 8]
-}
-
-pub fn zeros16() -> [u8; 16]
-    ensures { λ r. ⌜ r ≡ zeros 16 ⌝ }
-{
-    [0u8; 16]
-}
 
 // The descriptor in the bytes from 4 to 11.
 fn descriptor_at(bytes: &[u8]) -> [u8; 8]
     requires { ⌜ 12 ≤ length (now bytes) ⌝ }
     ensures { λ r. ⌜ r ≡ take 8 (drop 4 (now (bytes .entry))) ⌝ }
 {
-    let mut d = zeros8();
+    let mut d = zeros::zeros8();
     lists::copy_to(&mut d, 0, &bytes[4..12]);
     d
 }
@@ -49,7 +37,7 @@ pub fn nonce_at(bytes: &[u8]) -> [u8; 16]
     requires { ⌜ length (now bytes) ≡ 28 ⌝ }
     ensures { λ r. ⌜ r ≡ take 16 (drop 12 (now (bytes .entry))) ⌝ }
 {
-    let mut x = zeros16();
+    let mut x = zeros::zeros16();
     lists::copy_to(&mut x, 0, &bytes[12..28]);
     x
 }

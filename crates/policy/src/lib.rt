@@ -3,6 +3,7 @@ mod fields;
 
 use errno::Checked;
 use errno::Errno;
+use lists::zeros;
 ghost use mathlib.Core.Path.{_≡_};
 ghost use Rattle.policy.specs.Policies.{isPair, isMasterKeySize, isValid, samePolicy, noPolicy, noContext, readPolicy, readContext, refusedPolicy, refusedContext, policyBytes, contextBytes};
 
@@ -83,7 +84,7 @@ pub fn same_policy(a: Policy, b: Policy) -> bool
 fn no_policy() -> Policy
     ensures { λ r. ⌜ r ≡ noPolicy ⌝ }
 {
-    let d = fields::zeros8();
+    let d = zeros::zeros8();
     Policy {
         version: 0,
         contents: 0,
@@ -97,7 +98,7 @@ pub fn no_context() -> Context
     ensures { λ r. ⌜ r ≡ noContext ⌝ }
 {
     let p = no_policy();
-    let x = fields::zeros16();
+    let x = zeros::zeros16();
     Context {
         policy: p,
         nonce: x,

@@ -8,8 +8,8 @@ use borrow.Author.Needs.{needs}
 use Rattle.fscrypt.proofs.encode.encode_long.Statement.{statement}
 use Rattle.fscrypt.proofs.encode.encode_long.Tie as tie
 
-zero-name-requires : tie.Need-zero-name-requires
-zero-name-requires c κs = search needs
+zeros255-requires : tie.Need-zeros255-requires
+zeros255-requires c κs = search needs
 
 slice-aggregate-put-letters : tie.Need-slice-aggregate-put-letters
 slice-aggregate-put-letters c = count-take 160 (now (c .before .before .before .args .s)) (omega arith)
@@ -39,13 +39,13 @@ array-write-bytes-3 : tie.Need-array-write-bytes-3
 array-write-bytes-3 c = search needs
 
 returns : tie.Need-returns
-returns c = packed-long _ _ _ _ _ _ (c .before .before .before .before .before .before .pre) (c .before .before .before .before .zero-name .ensures) (c .before .before .put-letters .ensures) (c .before .hex-digit .ensures) (c .hex-digit2 .ensures)
+returns c = packed-long _ _ _ _ _ _ (c .before .before .before .before .before .before .pre) (c .before .before .before .before .zeros255 .ensures) (c .before .before .put-letters .ensures) (c .before .hex-digit .ensures) (c .hex-digit2 .ensures)
 
 pub encode-long-spec : {M : Type 1} → statement M
 encode-long-spec =
     tie.close
     (tie.spec
-    zero-name-requires
+    zeros255-requires
     slice-aggregate-put-letters
     put-letters-requires
     array-write-bytes

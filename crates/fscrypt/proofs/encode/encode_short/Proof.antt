@@ -4,8 +4,8 @@ use borrow.Author.Needs.{needs}
 use Rattle.fscrypt.proofs.encode.encode_short.Statement.{statement}
 use Rattle.fscrypt.proofs.encode.encode_short.Tie as tie
 
-zero-name-requires : tie.Need-zero-name-requires
-zero-name-requires c κs = search needs
+zeros255-requires : tie.Need-zeros255-requires
+zeros255-requires c κs = search needs
 
 put-letters-requires : tie.Need-put-letters-requires
 put-letters-requires c κs = search needs
@@ -20,8 +20,8 @@ cast-t9 : tie.Need-cast-t9
 cast-t9 c = search needs
 
 returns : tie.Need-returns
-returns c = packed-short _ _ _ _ (c .before .before .before .pre) (c .before .zero-name .ensures) (c .put-letters .ensures)
+returns c = packed-short _ _ _ _ (c .before .before .before .pre) (c .before .zeros255 .ensures) (c .put-letters .ensures)
 
 pub encode-short-spec : {M : Type 1} → statement M
 encode-short-spec =
-    tie.close (tie.spec zero-name-requires put-letters-requires mul-len add-len cast-t9 returns)
+    tie.close (tie.spec zeros255-requires put-letters-requires mul-len add-len cast-t9 returns)

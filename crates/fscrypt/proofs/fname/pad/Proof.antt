@@ -7,8 +7,8 @@ use Rattle.fscrypt.proofs.Padding.{pad-fits}
 use Rattle.fscrypt.proofs.fname.pad.Statement.{statement}
 use Rattle.fscrypt.proofs.fname.pad.Tie as tie
 
-zero-name-requires : tie.Need-zero-name-requires
-zero-name-requires c κs = search needs
+zeros255-requires : tie.Need-zeros255-requires
+zeros255-requires c κs = search needs
 
 put-name-requires : tie.Need-put-name-requires
 put-name-requires c κs = search needs
@@ -20,9 +20,9 @@ cast-t7 : tie.Need-cast-t7
 cast-t7 c = let s = c .before .before .before .before in let f = pad-fits (s .args .flags) (length (s .args .name .now)) (s .pre) in omega (arith, f .high)
 
 returns : tie.Need-returns
-returns c = let s = c .before .before .before .before in laid-padded (s .args .flags) _ _ _ (s .args .name .now) (s .pre) (c .padded-length .ensures) (c .before .put-name .ensures) (c .before .before .zero-name .ensures)
+returns c = let s = c .before .before .before .before in laid-padded (s .args .flags) _ _ _ (s .args .name .now) (s .pre) (c .padded-length .ensures) (c .before .put-name .ensures) (c .before .before .zeros255 .ensures)
 
 pub pad-spec : {M : Type 1} → statement M
 pad-spec =
     tie.close
-    (tie.spec zero-name-requires put-name-requires padded-length-requires cast-t7 returns)
+    (tie.spec zeros255-requires put-name-requires padded-length-requires cast-t7 returns)
