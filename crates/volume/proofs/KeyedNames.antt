@@ -40,7 +40,7 @@ use Rattle.volume.specs.declared.Form.the-variants.{Plain, Decrypted, En
 use Rattle.volume.proofs.SoundInvariant.{pass}
 use Rattle.volume.proofs.Soundness.{fresh-sound, fresh-unused, sound-kept}
 use Rattle.volume.proofs.Bytewise.{fresh-bytes, bytewise-kept}
-use Rattle.volume.proofs.SealedOpens.{was-fine, was-done, form-of, len-of, readable, shows}
+use Rattle.volume.proofs.SealedOpens.{was-fine, was-done, not-refused, shown-one, readable, shows}
 use Rattle.volume.proofs.NamesSince.{Since, stayed, gained, step-since}
 
 module _ (C : Cipher) where
@@ -149,14 +149,14 @@ module _ (C : Cipher) where
           → g (e .0) ≡ some (take (s .len) ((step C v (show e b)) .buffer))
       unfolding check effect showCheck formIn lacksKey
       named-show same b s h f =
-          let na : (m : ℕ) → refused m ≢ shown s = λ m q. let z : _≡_ {A = ℕ} 0 1 = cc in absurd (omega arith) in
+          let na = not-refused s in
           let eff = was-done C v (show e b) (shown s) na h in
           pass _ ERANGE _ (was-fine C v (show e b) (shown s) na h) λ h₁ k₁.
           pass _ ENOENT _ k₁ λ h₂ k₂.
-          let form : formIn v dir ≡ s .form = form-of (ap (λ (o : Outcome). o .answer) (sym eff) ∙ h) in
+          let form : formIn v dir ≡ s .form = ap (λ (x : ShownEntry). x .form) (shown-one (ap (λ (o : Outcome). o .answer) (sym eff) ∙ h)) in
           let held : lacksKey v dir ≡ false = with-key (dir .encrypted) (keyPresent v dir) (λ q. f (sym form ∙ q)) in
           let r = shows-given same held h₂ b (ltb-false (length b) 255 h₁) in
-          all (e .0) h₂ .is-given ∙ ap some (sym (r .3) ∙ ap (λ (n : ℕ). take n ((step C v (show e b)) .buffer)) (len-of (sym (r .1) ∙ h)))
+          all (e .0) h₂ .is-given ∙ ap some (sym (r .3) ∙ ap (λ (n : ℕ). take n ((step C v (show e b)) .buffer)) (ap (λ (x : ShownEntry). x .len) (shown-one (sym (r .1) ∙ h))))
         where
           with-key : (a b : Bool) → cond a (cond b Decrypted Encoded) Plain ≢ Encoded → (a && not b) ≡ false
           with-key true true f = refl

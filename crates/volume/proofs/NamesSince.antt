@@ -34,7 +34,7 @@ use Rattle.volume.proofs.SoundCore.{nodeIn, slot-name}
 use Rattle.volume.proofs.SoundClimb.{num}
 use Rattle.volume.proofs.SoundInvariant.{pass, is-directory, one≢zero, used-range}
 use Rattle.volume.proofs.SoundSetPolicy.{none-in}
-use Rattle.volume.proofs.SoundCreate.{free-kind}
+use Rattle.volume.proofs.SoundCreate.{free-kept}
 use Rattle.volume.proofs.SoundExchange.{look}
 use Rattle.volume.proofs.SoundRemove.{left-other, left-same}
 use Rattle.volume.proofs.Soundness.{sound-inv}
@@ -97,7 +97,7 @@ module _ (C : Cipher) (law : Lawful C) (v : Volume) (s : Sound v) where
       (λ j u. other (slotAt v j .parent .0) (s .parents j u))
     where
       other : (j : ℕ) → nodeAt v j .kind ≡ 1 → nodeIn (set (v .inodes) (freeInode v) (childOf (inodeAt v p) kind x)) j ≡ nodeAt v j
-      other j k = getD-set-other (v .inodes) (freeInode v) j (childOf (inodeAt v p) kind x) noInode (λ q. one≢zero k (ap (λ (m : ℕ). nodeAt v m .kind) q ∙ free-kind v))
+      other j k = free-kept v (childOf (inodeAt v p) kind x) j (one≢zero k)
 
   link-since : (i p : InodeNumber) (n : Bytes) → ByteList n → linkCheck C v i p n ≡ Fine → Leaves (link i p n)
   unfolding effect linkCheck freeEntry namedBy naming named

@@ -8,7 +8,7 @@ use mathlib.Core.Bool.{Bool, true, false, cond, not, _&&_, false≢true}
 use mathlib.Core.List.{List, _++_}
 use lib.ListN.{length, getD, take, drop}
 use lib.Dec.{eqb, ltb}
-use lib.Seq.{getD-set-same, getD-set-other, take-append-seam}
+use lib.Seq.{getD-set-same, take-append-seam}
 use borrow.Author.Tests.{le-ltb}
 use Rattle.lists.specs.Bytes.{Bytes, ByteList}
 use Rattle.lists.proofs.Tests.{not-false, and-known, if-true, if-false, eqb-other}
@@ -31,7 +31,7 @@ use Rattle.volume.specs.Lookup.{keySlotOf, keyOf, masterKey, descriptorO
 use Rattle.volume.specs.DirectoryNames.{derivedKey, nameKey, stored, readName, shownName, isUnreadable, formIn}
 use Rattle.volume.specs.Checks.{blockCheck, showCheck, createCheck, linkCheck, renameCheck}
 use Rattle.volume.specs.Step.{lent, check, effect, settle, step, childOf}
-use Rattle.volume.specs.Sound.{Sound, nodeAt, dirOf}
+use Rattle.volume.specs.Sound.{Sound, dirOf}
 use Rattle.volume.specs.SealedOpens.{Bytewise, ShowsAs, SameKey, SameName, SealedOpens}
 use Rattle.volume.specs.declared.InodeNumber.{InodeNumber}
 use Rattle.volume.specs.declared.EntryNumber.{EntryNumber}
@@ -45,7 +45,7 @@ use Rattle.volume.specs.declared.Form.the-variants.{Plain, Decrypted, En
 use Rattle.volume.proofs.SoundCore.{slot-name}
 use Rattle.volume.proofs.SoundClimb.{num}
 use Rattle.volume.proofs.SoundInvariant.{pass, is-directory, one≢zero, used-range, name-ok}
-use Rattle.volume.proofs.SoundCreate.{free-kind}
+use Rattle.volume.proofs.SoundCreate.{free-kept}
 use Rattle.volume.proofs.Bytewise.{bytewise-kept}
 
 -- ---- a request that was not refused passed its checks
@@ -72,11 +72,12 @@ done-by : (C : Cipher) (v : Volume) (r : Request) → check C v r ≡ Fine → s
 unfolding step
 done-by C v r h = settled v (lent r) (effect C v r) (check C v r) h
 
-pub form-of : {s t : ShownEntry} → shown s ≡ shown t → s .form ≡ t .form
-form-of q = cc
+-- what a show answers is no refusal, and tells one thing
+pub not-refused : (s : ShownEntry) (m : ℕ) → refused m ≢ shown s
+not-refused s m q = let z : _≡_ {A = ℕ} 0 1 = cc in absurd (omega arith)
 
-pub len-of : {s t : ShownEntry} → shown s ≡ shown t → s .len ≡ t .len
-len-of q = cc
+pub shown-one : {s t : ShownEntry} → shown s ≡ shown t → s ≡ t
+shown-one q = cc
 
 -- ---- what is read of a volume by the key of an inode
 
@@ -264,11 +265,10 @@ module _ (C : Cipher) (law : Lawful C) where
       let new = entrySlot p (num (freeInode v)) (stored C v (inodeAt v p) n) in
       let q : _≡_ {A = EntryNumber} (record { 0 = freeEntry v }) e = entry-of (ap (λ (o : Outcome). o .answer) (sym eff) ∙ h) in
       let w′ = subst (λ (o : Outcome). Bytewise (o .volume)) eff (bytewise-kept C v w r t) in
-      let apart : p .0 ≢ freeInode v = λ z. one≢zero (is-directory v p (dir .0)) (ap (λ (m : ℕ). nodeAt v m .kind) z ∙ free-kind v) in
       subst (λ (o : Outcome). ShowsAs C (o .volume) e n) (sym eff)
       (subst (λ (f : EntryNumber). ShowsAs C ((effect C v r) .volume) f n) q
       (shows-new v _ _ w′ (record { 0 = freeEntry v }) p (num (freeInode v)) n (t .0) (named .0) h₄
-      (getD-set-other (v .inodes) (freeInode v) (p .0) (childOf (inodeAt v p) kind x) noInode apart)
+      (free-kept v (childOf (inodeAt v p) kind x) (p .0) (one≢zero (is-directory v p (dir .0))))
       (getD-set-same (v .entries) (freeEntry v) new noEntry room)))
     where
       entry-of : {j i : InodeNumber} {f e : EntryNumber} → created j f ≡ created i e → f ≡ e
@@ -343,14 +343,15 @@ module _ (C : Cipher) (v w : Volume) (e : EntryNumber) (qx : SameName v w e) (qd
   unfolding check effect
   later-shows n h b room =
       let r = h b room in
-      let na : (m : ℕ) → refused m ≢ shown (r .0) = λ m q. let z : _≡_ {A = ℕ} 0 1 = cc in absurd (omega arith) in
+      let na = not-refused (r .0) in
       let fine = was-fine C v (show e b) (shown (r .0)) na (r .1) in
       let dv : step C v (show e b) ≡ effect C v (show e b) = was-done C v (show e b) (shown (r .0)) na (r .1) in
       let dw : step C w (show e b) ≡ effect C w (show e b) = done-by C w (show e b) (check-later (length b) ∙ fine) in
       let nv = shownName C v dir e (nameOf (entryAt v e)) in
       let nw = shownName C w (dirOf w (e .0)) e (nameOf (entryAt w e)) in
-      let s : formIn v dir ≡ r .0 .form = form-of (ap (λ (o : Outcome). o .answer) (sym dv) ∙ r .1) in
-      let l : length nv ≡ r .0 .len = len-of (ap (λ (o : Outcome). o .answer) (sym dv) ∙ r .1) in
+      let told = shown-one (ap (λ (o : Outcome). o .answer) (sym dv) ∙ r .1) in
+      let s : formIn v dir ≡ r .0 .form = ap (λ (x : ShownEntry). x .form) told in
+      let l : length nv ≡ r .0 .len = ap (λ (x : ShownEntry). x .len) told in
       let name : nv ≡ n =
       sym (take-append-seam nv (drop (length nv) b)) ∙ ap (λ (m : ℕ). take m (nv ++ drop (length nv) b)) l
       ∙ ap (λ (o : Outcome). take (r .0 .len) (o .buffer)) (sym dv) ∙ r .3 in (

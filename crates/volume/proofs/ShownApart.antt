@@ -23,7 +23,7 @@ use Rattle.fscrypt.proofs.Padding.{padded-bytes}
 use Rattle.fscrypt.proofs.Shown.{encoded-length-low, encoded-length-high, encoded-fair}
 use Rattle.fscrypt.proofs.Distinct.{encoded-apart}
 use Rattle.volume.specs.Volume.{entrySlots, noEntry, entrySlot, nameOf, fresh}
-use Rattle.volume.specs.Request.{Request, addKey, removeKey, setPolicy, getPolicy, create, link, rename, exchange, remove, find, show, seal, unseal, refused, shown, Outcome, Typed, AllTyped}
+use Rattle.volume.specs.Request.{Request, addKey, removeKey, setPolicy, getPolicy, create, link, rename, exchange, remove, find, show, seal, unseal, shown, Outcome, Typed, AllTyped}
 use Rattle.volume.specs.Lookup.{keyPresent, inodeAt, entryAt, freeInode, freeEntry}
 use Rattle.volume.specs.DirectoryNames.{derivedKey, nameKey, stored, readName, shownName, formIn}
 use Rattle.volume.specs.Checks.{showCheck}
@@ -42,7 +42,7 @@ use Rattle.volume.specs.declared.Form.the-variants.{Plain, Decrypted, En
 use Rattle.volume.proofs.SoundInvariant.{pass, used-range}
 use Rattle.volume.proofs.Soundness.{sound}
 use Rattle.volume.proofs.Bytewise.{fresh-bytes, bytewise-kept}
-use Rattle.volume.proofs.SealedOpens.{was-fine, was-done, derived-bytes}
+use Rattle.volume.proofs.SealedOpens.{was-fine, was-done, not-refused, shown-one, derived-bytes}
 
 -- ---- what show answers without the key
 
@@ -51,18 +51,12 @@ keyless-name x s t true true h = absurd (let z : _≡_ {A = ℕ} 0 1 = cc in ome
 keyless-name x s t true false h = refl
 keyless-name x s t false k h = absurd (let z : _≡_ {A = ℕ} 0 1 = cc in omega arith)
 
-shown-same : (s t : ShownEntry) → shown s ≡ shown t → s ≡ t
-shown-same s t e = cc
-
 module _ (C : Cipher) (v : Volume) where
   shown-encoded : (dir : Inode) (e : EntryNumber) (s : Bytes) → formIn v dir ≡ Encoded → shownName C v dir e s ≡ encoded s (e .0)
   unfolding shownName formIn
   shown-encoded dir e s h = keyless-name (nameBytes ((readName C v dir s) .name)) s (encoded s (e .0)) (dir .encrypted) (keyPresent v dir) h
 
   module _ (e : EntryNumber) (p : InodeNumber) (n : Bytes) (h : ShownKeyless C v e p n) where
-    not-refused : (m : ℕ) → refused m ≢ shown (h .entry)
-    not-refused m q = let z : _≡_ {A = ℕ} 0 1 = cc in absurd (omega arith)
-
     abbrev x : Entry
     x = entryAt v e
 
@@ -75,16 +69,16 @@ module _ (C : Cipher) (v : Volume) where
     was-used : Used v (e .0)
     unfolding check showCheck
     was-used =
-        pass _ ERANGE _ (was-fine C v (show e (h .lent)) (shown (h .entry)) not-refused (h .answered)) λ h₁ k₁.
+        pass _ ERANGE _ (was-fine C v (show e (h .lent)) (shown (h .entry)) (not-refused (h .entry)) (h .answered)) λ h₁ k₁.
         pass _ ENOENT _ k₁ λ h₂ k₂.
         h₂
 
     done : step C v (show e (h .lent)) ≡ effect C v (show e (h .lent))
-    done = was-done C v (show e (h .lent)) (shown (h .entry)) not-refused (h .answered)
+    done = was-done C v (show e (h .lent)) (shown (h .entry)) (not-refused (h .entry)) (h .answered)
 
     was-told : h .entry ≡ told
     unfolding effect
-    was-told = shown-same (h .entry) told (sym (h .answered) ∙ ap (λ (o : Outcome). o .answer) done)
+    was-told = shown-one (sym (h .answered) ∙ ap (λ (o : Outcome). o .answer) done)
 
     is-parent : x .parent ≡ p
     is-parent = sym (ap (λ (s : ShownEntry). s .parent) was-told) ∙ h .parent

@@ -39,6 +39,10 @@ pub free-kind : (v : Volume) → nodeAt v (freeInode v) .kind ≡ 0
 unfolding freeInode
 free-kind v = eqb-true (firstAt-passes isFree (v .inodes) noInode refl)
 
+-- an inode that is there stays as it is
+pub free-kept : (v : Volume) (x : Inode) (j : ℕ) → nodeAt v j .kind ≢ 0 → nodeIn (set (v .inodes) (freeInode v) x) j ≡ nodeAt v j
+free-kept v x j k = getD-set-other (v .inodes) (freeInode v) j x noInode (λ q. k (ap (λ (m : ℕ). nodeAt v m .kind) q ∙ free-kind v))
+
 module _ (C : Cipher) (law : Lawful C) (v : Volume) (ok : Inv v) where
   module _ (p : InodeNumber) (kind : ℕ) (n x : Bytes) (xl : length x ≡ 16) where
     abbrev i : ℕ
@@ -71,7 +75,7 @@ module _ (C : Cipher) (law : Lawful C) (v : Volume) (ok : Inv v) where
         there = getD-set-same (v .inodes) i newcomer noInode ir
 
         other : (j : ℕ) → nodeAt v j .kind ≢ 0 → nodeIn is′ j ≡ nodeAt v j
-        other j k = getD-set-other (v .inodes) i j newcomer noInode (λ q. k (ap (λ (m : ℕ). nodeAt v m .kind) q ∙ free-kind v))
+        other = free-kept v newcomer
 
         dir-same : nodeIn is′ (p .0) ≡ inodeAt v p
         dir-same = other (p .0) (one≢zero kd)

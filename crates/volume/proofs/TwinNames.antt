@@ -9,7 +9,6 @@ use lib.Seq.{getD-set-other}
 use lib.Dec.{eqb, leb, ltb}
 use Rattle.lists.specs.Bytes.{Bytes, ByteList, firstAt}
 use Rattle.lists.proofs.Tests.{eqb-self}
-use Rattle.lists.proofs.Tables.{firstAt-passes}
 use Rattle.policy.specs.Policies.{policyCheck, readPolicy}
 use Rattle.volume.specs.Volume.{entrySlots, noInode, plainInode, encryptedInode, entrySlot}
 use Rattle.volume.specs.Request.{setPolicy, create, link, rename, done, created, at, outcome}
@@ -24,6 +23,8 @@ use Rattle.volume.specs.declared.EntryNumber.{EntryNumber}
 use Rattle.volume.specs.declared.Inode.{Inode}
 use Rattle.volume.specs.declared.Entry.{Entry}
 use Rattle.volume.specs.declared.Volume.{Volume}
+use Rattle.volume.proofs.SoundInvariant.{one≢zero}
+use Rattle.volume.proofs.SoundCreate.{free-kept}
 use Rattle.volume.proofs.Twin.{Setting, Alike, test, part, both-fine, encKey, dirIn, encEntry, enc, InodeOk, Inv, StepTwin, Same}
 use Rattle.volume.proofs.TwinLookup.{needed-twin, entry-twin, free-entry-twin, child-twin, under-twin, entryNamed-twin, name-part, directory-part}
 use Rattle.volume.proofs.TwinStore.{no-child, nonces-set, kept-inv, kept-enc, store-inv, store-enc}
@@ -110,9 +111,7 @@ module _ (S : Setting) {g : Names} (v : Volume) (ok : Inv S g v) where
 
       -- a directory is not the free inode that is taken
       kept : (q : InodeNumber) → (inodeAt v q) .kind ≡ 1 → getD is′ (q .0) noInode ≡ inodeAt v q
-      kept q k = getD-set-other (v .inodes) (i .0) (q .0) _ noInode λ e.
-          let f : eqb ((inodeAt v q) .kind) 0 ≡ true = ap (λ (m : ℕ). eqb ((getD (v .inodes) m noInode) .kind) 0) e ∙ firstAt-passes isFree (v .inodes) noInode refl in
-          false≢true (ap (λ (m : ℕ). eqb m 0) (sym k) ∙ f)
+      kept q k = free-kept v (childOf (inodeAt v p) kind x) (q .0) (one≢zero k)
 
       stays : (j : ℕ) → Used v j → dirIn is′ (slotAt v j) ≡ dirOf v j
       stays j u = kept ((slotAt v j) .parent) (ok .entries-ok j u .in-directory)

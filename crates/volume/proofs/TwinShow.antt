@@ -19,8 +19,8 @@ use Rattle.fscrypt.specs.Names.{readPadded, nameBytes, packed}
 use Rattle.fscrypt.specs.Encoded.{letters, encoded}
 use Rattle.fscrypt.specs.declared.NameRead.{NameRead}
 use Rattle.fscrypt.proofs.Padding.{readPadded-padded, nameBytes-packed}
-use Rattle.fscrypt.proofs.Lettering.{length-front}
-use Rattle.fscrypt.proofs.Shown.{marks, encoded-long, length-short, length-encoded}
+use Rattle.fscrypt.proofs.Lettering.{length-front, marks, encoded-long}
+use Rattle.fscrypt.proofs.Shown.{length-short, length-encoded}
 use Rattle.volume.specs.Volume.{nameOf}
 use Rattle.volume.specs.Request.{show, Answer, shown, outcome}
 use Rattle.volume.specs.Lookup.{keyPresent, inodeAt, entryAt, isVacant}
