@@ -1,15 +1,12 @@
 -- Bytes put into a list. Assumes nothing.
 use mathlib.Core.Path.{_≡_, refl, sym, ap, ap₂, _∙_}
-use mathlib.Core.List.{List, [], _∷_, _++_, append-assoc, append-nil}
-use Prim.Native.Nat.{ℕ, zero, suc, _+_, _-_, _≤_, _<_}
-use native.Mathlib.Nat.{add-zero, add-assoc}
+use mathlib.Core.List.{List, _++_, append-assoc, append-nil}
+use Prim.Native.Nat.{ℕ, _+_, _-_, _≤_}
 use native.Mathlib.Numerals.{add-one, add-two, add-three}
 use native.Mathlib.Omega.{arith}
-use lib.ListN.{length, take, drop, set, getD, length-append, length-take, length-drop, List·getD-append, replicate, drop-of-length-le}
-use lib.Seq.{paste, paste-suc, sets, sets-eq, take-at, drop-at, length-take-le, drop-drop, drop-append-add, getD-append-add, getD-take, getD-drop}
+use lib.ListN.{length, take, drop, set, length-append, length-take, length-drop, replicate, drop-of-length-le}
+use lib.Seq.{paste, sets-eq, take-at, drop-drop, drop-append-add}
 use Rattle.aes.specs.Bytes.{putAt, wordBytes, stateBytes}
-use Rattle.aes.specs.Words.{wordAt}
-use Rattle.aes.specs.States.{stateAt}
 use Rattle.aes.specs.declared.Word.{Word}
 use Rattle.aes.specs.declared.State.{State}
 
@@ -54,12 +51,6 @@ put-four l i s l₁ l₂ l₃ l₄ h e₁ e₂ e₃ e₄ =
 pub alone : (s : State) (t : List ℕ) → t ≡ putAt (replicate 16 0) 0 (stateBytes s) → t ≡ stateBytes s
 unfolding putAt stateBytes
 alone s t e = e
-
--- a copy, element by element
-pub paste-turn : (d : List ℕ) (at : ℕ) (s l : List ℕ) (j : ℕ) → at + j < length d → j < length s → l ≡ paste d at s j
-    → set l (at + j) (getD s j 0) ≡ paste d at s (j + 1)
-paste-turn d at s l j hd hs e =
-    ap (λ (x : List ℕ). set x (at + j) (getD s j 0)) e ∙ paste-suc d at s j 0 hd hs ∙ ap (λ (k : ℕ). paste d at s k) (sym (add-one j))
 
 -- a copy to the end
 pub paste-end : (d : List ℕ) (at : ℕ) (s t l : List ℕ) (j : ℕ) → l ≡ paste d at t j → j ≡ length d - at → at ≤ length d → t ≡ s → l ≡ take at d ++ take (length d - at) s

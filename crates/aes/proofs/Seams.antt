@@ -1,30 +1,27 @@
 -- Words and states of a list that is made of two. Assumes nothing.
 use mathlib.Core.Path.{_≡_, refl, sym, ap, ap₂, _∙_}
-use mathlib.Core.List.{List, [], _∷_, _++_, append-assoc, append-nil}
-use Prim.Native.Nat.{ℕ, zero, suc, _+_, _*_, _-_, _≤_, _<_}
-use native.Mathlib.Nat.{mul-suc}
-use native.Mathlib.Numerals.{add-one}
+use mathlib.Core.List.{List, _++_}
+use Prim.Native.Nat.{ℕ, _+_, _-_, _≤_, _<_}
 use native.Mathlib.Omega.{arith}
-use lib.ListN.{length, take, drop, getD, length-append, drop-of-length-le, List·getD-append}
+use lib.ListN.{length, drop, getD, List·getD-append}
 use lib.Seq.{take-at, drop-drop, drop-append-add, getD-append-add, getD-drop}
-use Rattle.aes.specs.Bytes.{putAt, wordBytes, stateBytes}
+use Rattle.aes.specs.Bytes.{putAt, stateBytes}
 use Rattle.aes.specs.Words.{wordAt}
 use Rattle.aes.specs.States.{stateAt}
-use Rattle.aes.specs.declared.Word.{Word}
 use Rattle.aes.specs.declared.State.{State}
 
 -- ---- a list whose first bytes have been replaced by as many others, seam after seam
 
 module _ (A l : List ℕ) (n : ℕ) (e : length A ≡ n) where
-  getD-seam : (j : ℕ) → n ≤ j → getD (A ++ drop n l) j 0 ≡ getD l j 0
-  getD-seam j h =
+  pub getD-seam : (j d : ℕ) → n ≤ j → getD (A ++ drop n l) j d ≡ getD l j d
+  getD-seam j d h =
       let m : length A + (j - n) ≡ j = omega arith in
       let m′ : n + (j - n) ≡ j = omega arith in
-      ap (λ (k : ℕ). getD (A ++ drop n l) k 0) (sym m) ∙ getD-append-add A (drop n l) (j - n) 0 ∙ getD-drop n l (j - n) 0 ∙ ap (λ (k : ℕ). getD l k 0) m′
+      ap (λ (k : ℕ). getD (A ++ drop n l) k d) (sym m) ∙ getD-append-add A (drop n l) (j - n) d ∙ getD-drop n l (j - n) d ∙ ap (λ (k : ℕ). getD l k d) m′
 
   pub word-seam : (j : ℕ) → n ≤ j → wordAt (A ++ drop n l) j ≡ wordAt l j
   unfolding wordAt
-  word-seam j h = cc (getD-seam j h, getD-seam (j + 1) (omega arith), getD-seam (j + 2) (omega arith), getD-seam (j + 3) (omega arith))
+  word-seam j h = cc (getD-seam j 0 h, getD-seam (j + 1) 0 (omega arith), getD-seam (j + 2) 0 (omega arith), getD-seam (j + 3) 0 (omega arith))
 
   pub seam-at : (j : ℕ) → n ≤ j → stateAt (A ++ drop n l) j ≡ stateAt l j
   unfolding stateAt

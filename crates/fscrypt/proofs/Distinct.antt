@@ -13,8 +13,8 @@ use lib.Dec.{ltb}
 use borrow.Author.Tests.{lt-ltb, le-ltb}
 use Rattle.lists.specs.Bytes.{Bytes, ByteList, hexDigit}
 use Rattle.fscrypt.specs.Encoded.{letter, letters, encoded}
-use Rattle.fscrypt.proofs.Lettering.{first-0, letter-upper, letter-lower, letter-digit, letter-sign, encoded-short}
-use Rattle.fscrypt.proofs.Shown.{encoded-long, long-mark}
+use Rattle.fscrypt.proofs.Lettering.{first-0, letter-upper, letter-lower, letter-digit, letter-sign, encoded-short, encoded-long}
+use Rattle.fscrypt.proofs.Shown.{long-mark}
 
 -- ---- a letter is read back
 

@@ -4,10 +4,9 @@ use mathlib.Core.Path.{_≡_, refl, sym, ap, ap₂, _∙_}
 use mathlib.Core.List.{[], _∷_, _++_, append-assoc}
 use Prim.Native.Nat.{ℕ, zero, suc, _+_, _-_, _*_, _/_, _%_, _≤_, _<_}
 use native.Mathlib.Nat.{zero-add}
-use native.Mathlib.Numerals.{add-one}
 use native.Mathlib.Omega.{arith}
 use lib.ListN.{length, take, drop, getD, set, length-append, length-drop}
-use lib.Seq.{getD-drop, length-take-le, take-length, set-at, append-snoc, paste, paste-suc}
+use lib.Seq.{getD-drop, length-take-le, take-length, set-at, append-snoc, paste}
 use borrow.Author.Tests.{lt-ltb, le-ltb, le-leb, lt-leb}
 use Rattle.lists.specs.Bytes.{Bytes, zeros, hexDigit}
 use Rattle.lists.proofs.ByteStrings.{drop-zeros}
@@ -141,7 +140,11 @@ pub encoded-short : (s : Bytes) (e : ℕ) → length s ≤ 160 → encoded s e �
 unfolding encoded
 encoded-short s e h = rw (le-leb (length s) 160 h)
 
-pub encoded-long : (s : Bytes) (e : ℕ) → 160 < length s → encoded s e ≡ 95 ∷ (letters (take 160 s) ++ (hexDigit (e / 16 % 16) ∷ hexDigit (e % 16) ∷ []))
+-- the entry's number, as it ends a long name
+abbrev pub marks : ℕ → Bytes
+marks e = hexDigit (e / 16 % 16) ∷ hexDigit (e % 16) ∷ []
+
+pub encoded-long : (s : Bytes) (e : ℕ) → 160 < length s → encoded s e ≡ 95 ∷ (letters (take 160 s) ++ marks e)
 unfolding encoded
 encoded-long s e h = rw (lt-leb (length s) 160 h)
 
@@ -149,12 +152,6 @@ pub length-front : (s : Bytes) → 160 < length s → length (letters (take 160 
 length-front s h = omega (arith, length-letters (take 160 s), length-take-le 160 s (omega arith))
 
 -- ---- in a buffer of zeros
-
--- a turn of the loop that puts the letters
-pub paste-turn : (d : Bytes) (at : ℕ) (s l : Bytes) (j r : ℕ) → at + j < length d → j < length s → l ≡ paste d at s j → r ≡ getD s j 0
-    → set l (at + j) r ≡ paste d at s (j + 1)
-paste-turn d at s l j r hd hs e q =
-    ap₂ (λ (x : Bytes) (y : ℕ). set x (at + j) y) e q ∙ paste-suc d at s j 0 hd hs ∙ ap (λ (k : ℕ). paste d at s k) (sym (add-one j))
 
 pub paste-end : (d : Bytes) (at : ℕ) (s l : Bytes) (j : ℕ) → l ≡ paste d at s j → j ≡ length s → l ≡ take at d ++ s ++ drop (at + length s) d
 paste-end d at s l j e h = e ∙ ap (λ (k : ℕ). paste d at s k) h ∙ ap (λ (x : Bytes). take at d ++ x ++ drop (at + length s) d) (take-length s)

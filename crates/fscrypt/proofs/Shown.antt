@@ -11,17 +11,9 @@ use lib.Seq.{getD-append-add}
 use Rattle.lists.specs.Bytes.{Bytes, ByteList, hexDigit}
 use Rattle.lists.proofs.ByteStrings.{take-bytes}
 use Rattle.fscrypt.specs.Encoded.{letter, letters, encoded}
-use Rattle.fscrypt.proofs.Lettering.{length-letters, length-front, letter-upper, letter-lower, letter-digit, letter-sign, encoded-short}
-use Rattle.fscrypt.proofs.Lettering as lettering
+use Rattle.fscrypt.proofs.Lettering.{length-letters, length-front, letter-upper, letter-lower, letter-digit, letter-sign, marks, encoded-short, encoded-long}
 
 -- ---- lengths
-
--- the entry's number, as it ends a long name
-abbrev pub marks : ℕ → Bytes
-marks e = hexDigit (e / 16 % 16) ∷ hexDigit (e % 16) ∷ []
-
-pub encoded-long : (s : Bytes) (e : ℕ) → 160 < length s → encoded s e ≡ 95 ∷ (letters (take 160 s) ++ marks e)
-encoded-long s e h = lettering.encoded-long s e h
 
 pub length-short : (s : Bytes) (e : ℕ) → length s ≤ 160 → length (encoded s e) ≡ (4 * length s + 2) / 3
 length-short s e h = ap length (encoded-short s e h) ∙ length-letters s

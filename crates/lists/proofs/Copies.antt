@@ -4,10 +4,10 @@ use Prim.Native.Nat.{ℕ, suc, _+_, _≤_, _<_}
 use native.Mathlib.Omega.{arith}
 use native.Mathlib.Numerals.{add-one}
 use native.Mathlib.Nat.{zero-add}
-use mathlib.Core.Path.{_≡_, sym, _∙_, ap}
+use mathlib.Core.Path.{_≡_, sym, _∙_, ap, ap₂}
 use mathlib.Core.List.{[], _∷_, _++_, append-nil}
-use lib.ListN.{length, take, drop, set, getD, drop-of-length-le}
-use lib.Seq.{sets, sets-eq, take-suc, length-take-le}
+use lib.ListN.{length, take, set, getD, drop-of-length-le}
+use lib.Seq.{sets, sets-eq, paste, paste-suc, take-suc, length-take-le}
 use Rattle.lists.specs.Bytes.{Bytes, laidOver}
 
 -- one string after another is one string
@@ -30,3 +30,9 @@ pub copied-whole : (b c s : Bytes) → c ≡ sets b 0 s → length s ≡ length 
 copied-whole b c s e h =
     let over : length b ≤ length s = omega arith in
     e ∙ copied-over b s (omega arith) ∙ ap (λ (r : Bytes). s ++ r) (drop-of-length-le b over) ∙ append-nil s
+
+-- a turn of a loop that makes the bytes of a string, each where it stands in the buffer
+pub paste-turn : (d : Bytes) (at : ℕ) (s l : Bytes) (j r : ℕ) → at + j < length d → j < length s → l ≡ paste d at s j → r ≡ getD s j 0
+    → set l (at + j) r ≡ paste d at s (j + 1)
+paste-turn d at s l j r hd hs e q =
+    ap₂ (λ (x : Bytes) (y : ℕ). set x (at + j) y) e q ∙ paste-suc d at s j 0 hd hs ∙ ap (λ (k : ℕ). paste d at s k) (sym (add-one j))

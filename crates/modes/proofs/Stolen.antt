@@ -1,12 +1,11 @@
 -- What the code of ciphertext stealing does is what the definitions say: the end of a text, and the whole. Assumes nothing.
 use mathlib.Core.Path.{_≡_, refl, sym, ap, ap₂, _∙_}
-use mathlib.Core.List.{List, [], _∷_, _++_, append-assoc, append-nil}
-use Prim.Native.Nat.{ℕ, zero, suc, _+_, _-_, _*_, _/_, _≤_, _<_}
+use mathlib.Core.List.{List, _++_, append-assoc}
+use Prim.Native.Nat.{ℕ, _+_, _-_, _*_, _/_, _≤_, _<_}
 use native.Mathlib.Omega.{arith}
 use borrow.Author.Tests.{lt-ltb, le-ltb}
-use lib.Dec.{ltb}
-use lib.ListN.{length, take, drop, getD, length-append, length-take, length-drop, drop-of-length-le}
-use lib.Seq.{take-at, getD-append-add, getD-drop}
+use lib.ListN.{length, take, drop}
+use lib.Seq.{take-at}
 use Rattle.aes.specs.Words.{wordAt}
 use Rattle.aes.specs.States.{addRoundKey, stateAt}
 use Rattle.aes.specs.Bytes.{putAt, stateBytes}
@@ -14,7 +13,7 @@ use Rattle.aes.specs.Cipher.{invCipher}
 use Rattle.aes.specs.declared.Word.{Word}
 use Rattle.aes.specs.declared.State.{State}
 use Rattle.aes.proofs.Put.{length-putAt, take-putAt}
-use Rattle.aes.proofs.Seams.{length-state, seam-at}
+use Rattle.aes.proofs.Seams.{length-state, getD-seam, seam-at}
 use Rattle.modes.specs.Walk.{carried, walked}
 use Rattle.modes.specs.Xts.{lowWord, numberBlock}
 use Rattle.modes.specs.Cts.{cbcStep, cbcNext, cbcInvStep, cbcInvNext, lastTwo, invLastTwo, filledWord, filled, cs3Encrypt, cs3Decrypt, cbcCs3Encrypt, cbcCs3Decrypt}
@@ -50,16 +49,11 @@ untail-by w n c l l₂ i o y a p q eo ey ea ep eq e = cc
 -- ---- the blocks walked, and the end
 
 module _ (A l : List ℕ) (n : ℕ) (e : length A ≡ n) where
-  getD-seam : (j d : ℕ) → n ≤ j → getD (A ++ drop n l) j d ≡ getD l j d
-  getD-seam j d h =
-      let m : length A + (j - n) ≡ j = omega arith in
-      let m′ : n + (j - n) ≡ j = omega arith in
-      ap (λ (k : ℕ). getD (A ++ drop n l) k d) (sym m) ∙ getD-append-add A (drop n l) (j - n) d ∙ getD-drop n l (j - n) d ∙ ap (λ (k : ℕ). getD l k d) m′
-
   filledWord-seam : (j : ℕ) (w : Word) → n ≤ j → filledWord (A ++ drop n l) j w ≡ filledWord l j w
   unfolding filledWord
   filledWord-seam j w h =
-      cc (getD-seam j (w .r0) h, getD-seam (j + 1) (w .r1) (omega arith), getD-seam (j + 2) (w .r2) (omega arith), getD-seam (j + 3) (w .r3) (omega arith))
+      let at = getD-seam A l n e in
+      cc (at j (w .r0) h, at (j + 1) (w .r1) (omega arith), at (j + 2) (w .r2) (omega arith), at (j + 3) (w .r3) (omega arith))
 
   filled-seam : (j : ℕ) (s : State) → n ≤ j → filled (A ++ drop n l) j s ≡ filled l j s
   unfolding filled

@@ -1,7 +1,8 @@
 -- `cts::store_front` meets its contract: by the invariant of its loop and `paste-end`. Assumes nothing.
 use denote.Ref.{now}
 use lib.Seq.{paste, paste-zero}
-use Rattle.aes.proofs.Put.{alone, paste-turn, paste-end}
+use Rattle.lists.proofs.Copies.{paste-turn}
+use Rattle.aes.proofs.Put.{alone, paste-end}
 use Prim.Native.Nat.{ℕ, _+_, _*_, _≤_, _<_, _-_}
 use native.Mathlib.Omega.{arith}
 use mathlib.Core.Path.{_≡_, refl, sym, ap, ap₂, _∙_}
@@ -47,7 +48,7 @@ loop-again : tie.Need-loop-again Inv-loop μ-loop
 loop-again c =
     let i : c .before .before .before .before .before .before .args .at + c .before .loop .j < length (now (c .before .before .before .before .before .before .args .l)) = omega arith in
     let k : c .before .loop .j < length (c .before .before .before .store .last .0) = omega arith in
-    (refl, omega arith, simp length-set (omega arith), omega arith, paste-turn _ _ _ _ _ i k (c .before .loop .inv .4))
+    (refl, omega arith, simp length-set (omega arith), omega arith, paste-turn _ _ _ _ _ _ i k (c .before .loop .inv .4) refl)
 
 same-length : tie.Need-same-length Inv-loop μ-loop
 same-length c = omega arith
