@@ -2,7 +2,6 @@
 -- volume; a name laid over a buffer leaves what stands past it. Assumes nothing.
 use Prim.Native.Nat.{ℕ}
 use mathlib.Core.Path.{_≡_, refl, sym, _∙_, ap}
-use mathlib.Core.Logic.{_≢_}
 use mathlib.Core.Bool.{Bool, true, false, true≢false}
 use mathlib.Core.List.{_++_}
 use lib.ListN.{length, drop}
@@ -22,7 +21,7 @@ use Rattle.volume.specs.Leaves.{Refuses, Leaves}
 use Rattle.volume.specs.declared.EntryNumber.{EntryNumber}
 use Rattle.volume.specs.declared.ShownEntry.{ShownEntry}
 use Rattle.volume.specs.declared.Volume.{Volume}
-use Rattle.volume.proofs.SealedOpens.{was-done}
+use Rattle.volume.proofs.SealedOpens.{was-done, not-refused, shown-one}
 
 number-of : {m n : ℕ} → refused m ≡ refused n → m ≡ n
 number-of q = cc
@@ -52,9 +51,6 @@ isRefusal (created i e) = false
 isRefusal (at e) = false
 isRefusal (policyIs p) = false
 isRefusal (shown s) = false
-
-entry-of : {s t : ShownEntry} → shown s ≡ shown t → s .len ≡ t .len
-entry-of q = cc
 
 module _ (C : Cipher) (v : Volume) where
   effect-is : (r : Request) → isRefusal ((effect C v r) .answer) ≡ false
@@ -94,10 +90,9 @@ module _ (C : Cipher) (v : Volume) where
       → drop (s .len) ((step C v (show e b)) .buffer) ≡ drop (s .len) b
   unfolding effect
   past-the-name e b s h =
-      let never : (m : ℕ) → refused m ≢ shown s = λ m q. true≢false (ap isRefusal q) in
-      let d = was-done C v (show e b) (shown s) never h in
+      let d = was-done C v (show e b) (shown s) (not-refused s) h in
       let n = shownName C v (inodeAt v (entryAt v e .parent)) e (nameOf (entryAt v e)) in
-      let l : length n ≡ s .len = entry-of (ap (λ (o : Outcome). o .answer) (sym d) ∙ h) in
+      let l : length n ≡ s .len = ap (λ (x : ShownEntry). x .len) (shown-one (ap (λ (o : Outcome). o .answer) (sym d) ∙ h)) in
       ap (λ (o : Outcome). drop (s .len) (o .buffer)) d
       ∙ ap (λ (k : ℕ). drop k (n ++ drop (length n) b)) (sym l)
       ∙ drop-append-seam n (drop (length n) b)
