@@ -1,2 +1,3 @@
 -- The laws of names.
 mod Reading
+mod Published

@@ -1,0 +1,103 @@
+-- Published examples, and what a Linux 6.1 kernel wrote, computed from the definitions: a key, a name or a block that stays as it was, another cipher, or another key
+-- of the keyring would show. Assumes nothing.
+use Prim.Native.Nat.{ℕ}
+use mathlib.Core.Path.{_≡_, refl}
+use mathlib.Core.List.{[], _∷_}
+use lib.ListN.{take, set}
+use Rattle.lists.specs.Bytes.{Bytes, zeros, firstAt, same}
+use Rattle.field.specs.Field.{_⊕_, polynomialProduct, reduced, _•_, xTimes, dot}
+use Rattle.field.specs.SBox.{sBoxTable, sBox}
+use Rattle.aes.specs.Words.{mixColumn, subWord, addWord, rotWord, wordAt}
+use Rattle.aes.specs.States.{subBytes, shiftRows, mixColumns, addRoundKey, stateAt}
+use Rattle.aes.specs.Bytes.{stateBytes}
+use Rattle.aes.specs.Cipher.{roundKey, round, rounds, lastRound, cipher}
+use Rattle.aes.specs.KeyExpansion.{xPower, rcon, temp, nextWord, expanded, keyExpansion}
+use Rattle.modes.specs.Walk.{carried, walked}
+use Rattle.modes.specs.Ecb.{ecbBlocks}
+use Rattle.modes.specs.Cts.{cbcStep, lastTwo, cs3Encrypt, cbcCs3Encrypt}
+use Rattle.modes.specs.Xts.{lowWord, numberBlock, shiftedWord, timesAlpha, blockEnc, xtsAesEnc}
+use Rattle.ciphers.specs.Entries.{ctsFits, ctsEncrypt, xtsFits, tweakOf, xtsEncrypt, ecbFits, ecbEncrypt}
+use Rattle.policy.specs.Policies.{nameKeySize}
+use Rattle.fscrypt.specs.Cipher.{derive, encryptName, seal, fscrypt}
+use Rattle.fscrypt.specs.Names.{rounded, paddedLength, padded, encrypted}
+use Rattle.volume.specs.Volume.{encryptedInode, keySlot, fresh}
+use Rattle.volume.specs.Lookup.{keySlotOf, keyOf}
+use Rattle.volume.specs.DirectoryNames.{derivedKey, nameKey, stored}
+use Rattle.volume.specs.Step.{withKeys}
+use Rattle.volume.specs.declared.Inode.{Inode}
+use Rattle.volume.specs.declared.Volume.{Volume}
+
+-- FIPS 197, appendix C.1, as one block of a derived key: the nonce is the AES key
+nonce : Bytes
+nonce = 0x00 ∷ 0x01 ∷ 0x02 ∷ 0x03 ∷ 0x04 ∷ 0x05 ∷ 0x06 ∷ 0x07 ∷ 0x08 ∷ 0x09 ∷ 0x0a ∷ 0x0b ∷ 0x0c ∷ 0x0d ∷ 0x0e ∷ 0x0f ∷ []
+
+master : Bytes
+master = 0x00 ∷ 0x11 ∷ 0x22 ∷ 0x33 ∷ 0x44 ∷ 0x55 ∷ 0x66 ∷ 0x77 ∷ 0x88 ∷ 0x99 ∷ 0xaa ∷ 0xbb ∷ 0xcc ∷ 0xdd ∷ 0xee ∷ 0xff ∷ []
+
+derived : fscrypt .derive master nonce ≡ 0x69 ∷ 0xc4 ∷ 0xe0 ∷ 0xd8 ∷ 0x6a ∷ 0x7b ∷ 0x04 ∷ 0x30 ∷ 0xd8 ∷ 0xcd ∷ 0xb7 ∷ 0x80 ∷ 0x70 ∷ 0xb4 ∷ 0xc5 ∷ 0x5a ∷ []
+unfolding nonce master derive ecbEncrypt ecbFits ecbBlocks stateBytes cipher rounds round lastRound roundKey keyExpansion expanded nextWord temp rcon xPower stateAt wordAt subBytes shiftRows mixColumns addRoundKey subWord mixColumn addWord rotWord dot sBox sBoxTable _•_ polynomialProduct reduced _⊕_ xTimes
+derived = refl
+
+-- RFC 3962, appendix B: 17 bytes under the key "chicken teriyaki"
+rfcKey : Bytes
+rfcKey = 0x63 ∷ 0x68 ∷ 0x69 ∷ 0x63 ∷ 0x6b ∷ 0x65 ∷ 0x6e ∷ 0x20 ∷ 0x74 ∷ 0x65 ∷ 0x72 ∷ 0x69 ∷ 0x79 ∷ 0x61 ∷ 0x6b ∷ 0x69 ∷ []
+
+rfcText : Bytes
+rfcText = 0x49 ∷ 0x20 ∷ 0x77 ∷ 0x6f ∷ 0x75 ∷ 0x6c ∷ 0x64 ∷ 0x20 ∷ 0x6c ∷ 0x69 ∷ 0x6b ∷ 0x65 ∷ 0x20 ∷ 0x74 ∷ 0x68 ∷ 0x65 ∷ 0x20 ∷ []
+
+name : fscrypt .encryptName rfcKey rfcText ≡ 0xc6 ∷ 0x35 ∷ 0x35 ∷ 0x68 ∷ 0xf2 ∷ 0xbf ∷ 0x8c ∷ 0xb4 ∷ 0xd8 ∷ 0xa5 ∷ 0x80 ∷ 0x36 ∷ 0x2d ∷ 0xa7 ∷ 0xff ∷ 0x7f ∷ 0x97 ∷ []
+unfolding rfcKey rfcText encryptName ctsEncrypt ctsFits cbcCs3Encrypt cs3Encrypt lastTwo cbcStep walked carried numberBlock lowWord stateBytes cipher rounds round lastRound roundKey keyExpansion expanded nextWord temp rcon xPower stateAt wordAt subBytes shiftRows mixColumns addRoundKey subWord mixColumn addWord rotWord dot sBox sBoxTable _•_ polynomialProduct reduced _⊕_ xTimes
+name = refl
+
+-- IEEE 1619, annex B, vector 10: the first 32 bytes, which a longer data unit has too; the second 16 are under the tweak multiplied by α
+ieeeKey : Bytes
+ieeeKey = 0x27 ∷ 0x18 ∷ 0x28 ∷ 0x18 ∷ 0x28 ∷ 0x45 ∷ 0x90 ∷ 0x45 ∷ 0x23 ∷ 0x53 ∷ 0x60 ∷ 0x28 ∷ 0x74 ∷ 0x71 ∷ 0x35 ∷ 0x26 ∷ 0x62 ∷ 0x49 ∷ 0x77 ∷ 0x57 ∷ 0x24 ∷ 0x70 ∷ 0x93 ∷ 0x69 ∷ 0x99 ∷ 0x59 ∷ 0x57 ∷ 0x49 ∷ 0x66 ∷ 0x96 ∷ 0x76 ∷ 0x27 ∷ 0x31 ∷ 0x41 ∷ 0x59 ∷ 0x26 ∷ 0x53 ∷ 0x58 ∷ 0x97 ∷ 0x93 ∷ 0x23 ∷ 0x84 ∷ 0x62 ∷ 0x64 ∷ 0x33 ∷ 0x83 ∷ 0x27 ∷ 0x95 ∷ 0x02 ∷ 0x88 ∷ 0x41 ∷ 0x97 ∷ 0x16 ∷ 0x93 ∷ 0x99 ∷ 0x37 ∷ 0x51 ∷ 0x05 ∷ 0x82 ∷ 0x09 ∷ 0x74 ∷ 0x94 ∷ 0x45 ∷ 0x92 ∷ []
+
+ieeeBlock : Bytes
+ieeeBlock = 0x00 ∷ 0x01 ∷ 0x02 ∷ 0x03 ∷ 0x04 ∷ 0x05 ∷ 0x06 ∷ 0x07 ∷ 0x08 ∷ 0x09 ∷ 0x0a ∷ 0x0b ∷ 0x0c ∷ 0x0d ∷ 0x0e ∷ 0x0f ∷ 0x10 ∷ 0x11 ∷ 0x12 ∷ 0x13 ∷ 0x14 ∷ 0x15 ∷ 0x16 ∷ 0x17 ∷ 0x18 ∷ 0x19 ∷ 0x1a ∷ 0x1b ∷ 0x1c ∷ 0x1d ∷ 0x1e ∷ 0x1f ∷ zeros 4064
+
+block : take 32 (fscrypt .seal ieeeKey 0xff ieeeBlock)
+    ≡ 0x1c ∷ 0x3b ∷ 0x3a ∷ 0x10 ∷ 0x2f ∷ 0x77 ∷ 0x03 ∷ 0x86 ∷ 0xe4 ∷ 0x83 ∷ 0x6c ∷ 0x99 ∷ 0xe3 ∷ 0x70 ∷ 0xcf ∷ 0x9b ∷ 0xea ∷ 0x00 ∷ 0x80 ∷ 0x3f ∷ 0x5e ∷ 0x48 ∷ 0x23 ∷ 0x57 ∷ 0xa4 ∷ 0xae ∷ 0x12 ∷ 0xd4 ∷ 0x14 ∷ 0xa3 ∷ 0xe6 ∷ 0x3b ∷ []
+unfolding ieeeKey ieeeBlock zeros seal xtsEncrypt xtsFits tweakOf xtsAesEnc blockEnc timesAlpha shiftedWord walked carried numberBlock lowWord stateBytes cipher rounds round lastRound roundKey keyExpansion expanded nextWord temp rcon xPower stateAt wordAt subBytes shiftRows mixColumns addRoundKey subWord mixColumn addWord rotWord dot sBox sBoxTable _•_ polynomialProduct reduced _⊕_ xTimes
+block = refl
+
+-- ---- a Linux 6.1 kernel, pair 1/4, flags 0, under the descriptor 0011223344556677 and the master key 00 to 3f
+
+descriptor : Bytes
+descriptor = 0x00 ∷ 0x11 ∷ 0x22 ∷ 0x33 ∷ 0x44 ∷ 0x55 ∷ 0x66 ∷ 0x77 ∷ []
+
+-- an inode with that policy
+node : ℕ → Bytes → Inode
+node kind x = encryptedInode kind (record { version = 0; contents = 1; names = 4; flags = 0; descriptor = descriptor }) x
+
+kernelKey : Bytes
+kernelKey = 0x00 ∷ 0x01 ∷ 0x02 ∷ 0x03 ∷ 0x04 ∷ 0x05 ∷ 0x06 ∷ 0x07 ∷ 0x08 ∷ 0x09 ∷ 0x0a ∷ 0x0b ∷ 0x0c ∷ 0x0d ∷ 0x0e ∷ 0x0f ∷ 0x10 ∷ 0x11 ∷ 0x12 ∷ 0x13 ∷ 0x14 ∷ 0x15 ∷ 0x16 ∷ 0x17 ∷ 0x18 ∷ 0x19 ∷ 0x1a ∷ 0x1b ∷ 0x1c ∷ 0x1d ∷ 0x1e ∷ 0x1f ∷ 0x20 ∷ 0x21 ∷ 0x22 ∷ 0x23 ∷ 0x24 ∷ 0x25 ∷ 0x26 ∷ 0x27 ∷ 0x28 ∷ 0x29 ∷ 0x2a ∷ 0x2b ∷ 0x2c ∷ 0x2d ∷ 0x2e ∷ 0x2f ∷ 0x30 ∷ 0x31 ∷ 0x32 ∷ 0x33 ∷ 0x34 ∷ 0x35 ∷ 0x36 ∷ 0x37 ∷ 0x38 ∷ 0x39 ∷ 0x3a ∷ 0x3b ∷ 0x3c ∷ 0x3d ∷ 0x3e ∷ 0x3f ∷ []
+
+-- a volume that holds the key
+held : Volume
+held = withKeys fresh (set (fresh .keys) 3 (keySlot descriptor kernelKey))
+
+directoryNonce : Bytes
+directoryNonce = 0x58 ∷ 0x5e ∷ 0xf8 ∷ 0xb5 ∷ 0xae ∷ 0xea ∷ 0xbf ∷ 0x55 ∷ 0x12 ∷ 0x0f ∷ 0xe0 ∷ 0x4a ∷ 0x5c ∷ 0x06 ∷ 0x80 ∷ 0x9f ∷ []
+
+kernelName : Bytes
+kernelName = 0x72 ∷ 0x79 ∷ 0x66 ∷ 0x6d ∷ 0x74 ∷ 0x61 ∷ 0x68 ∷ 0x6f ∷ 0x76 ∷ 0x63 ∷ 0x6a ∷ 0x71 ∷ 0x78 ∷ 0x65 ∷ 0x6c ∷ 0x73 ∷ 0x7a ∷ []
+
+-- a name of 17 bytes, as the kernel stored it
+stored-by-kernel : stored fscrypt held (node 1 directoryNonce) kernelName
+    ≡ 0x76 ∷ 0x57 ∷ 0x7e ∷ 0x98 ∷ 0xea ∷ 0xf3 ∷ 0xb8 ∷ 0xfe ∷ 0x85 ∷ 0x58 ∷ 0x5b ∷ 0xc5 ∷ 0x2f ∷ 0xad ∷ 0x69 ∷ 0xf0 ∷ 0x02 ∷ 0x2b ∷ 0xd5 ∷ 0x1c ∷ []
+unfolding descriptor node kernelKey held directoryNonce kernelName zeros fresh firstAt same keySlotOf keyOf derivedKey nameKey nameKeySize stored encrypted padded paddedLength rounded derive ecbEncrypt ecbFits ecbBlocks encryptName ctsEncrypt ctsFits cbcCs3Encrypt cs3Encrypt lastTwo cbcStep walked carried numberBlock lowWord stateBytes cipher rounds round lastRound roundKey keyExpansion expanded nextWord temp rcon xPower stateAt wordAt subBytes shiftRows mixColumns addRoundKey subWord mixColumn addWord rotWord dot sBox sBoxTable _•_ polynomialProduct reduced _⊕_ xTimes
+stored-by-kernel = refl
+
+fileNonce : Bytes
+fileNonce = 0xc0 ∷ 0x0b ∷ 0xed ∷ 0xab ∷ 0x23 ∷ 0x61 ∷ 0xc5 ∷ 0x13 ∷ 0x82 ∷ 0xba ∷ 0x24 ∷ 0x31 ∷ 0xef ∷ 0x15 ∷ 0x2a ∷ 0x1f ∷ []
+
+-- the first 32 bytes of a block
+kernelBlock : Bytes
+kernelBlock = 0x3b ∷ 0x9b ∷ 0xc9 ∷ 0x67 ∷ 0x4b ∷ 0xf0 ∷ 0x56 ∷ 0xb8 ∷ 0x91 ∷ 0x71 ∷ 0xf4 ∷ 0x46 ∷ 0x76 ∷ 0x11 ∷ 0x00 ∷ 0xdb ∷ 0x22 ∷ 0x95 ∷ 0xcb ∷ 0x75 ∷ 0x40 ∷ 0x9f ∷ 0x94 ∷ 0x83 ∷ 0x35 ∷ 0x23 ∷ 0x88 ∷ 0x02 ∷ 0x54 ∷ 0x35 ∷ 0x86 ∷ 0x30 ∷ zeros 4064
+
+-- block 1 of a file, as the kernel wrote it
+sealed-by-kernel : take 32 (fscrypt .seal (derivedKey fscrypt held (node 2 fileNonce)) 1 kernelBlock)
+    ≡ 0x36 ∷ 0x84 ∷ 0x5a ∷ 0x51 ∷ 0xc1 ∷ 0xe4 ∷ 0xd9 ∷ 0xae ∷ 0x34 ∷ 0xab ∷ 0xd8 ∷ 0xf6 ∷ 0x13 ∷ 0xc4 ∷ 0xfd ∷ 0xcf ∷ 0x3e ∷ 0xae ∷ 0x5d ∷ 0x51 ∷ 0x89 ∷ 0xf5 ∷ 0xd6 ∷ 0x10 ∷ 0x0b ∷ 0xd8 ∷ 0xd1 ∷ 0x47 ∷ 0x99 ∷ 0xf0 ∷ 0xce ∷ 0xde ∷ []
+unfolding descriptor node kernelKey held fileNonce kernelBlock zeros fresh firstAt same keySlotOf keyOf derivedKey derive ecbEncrypt ecbFits ecbBlocks seal xtsEncrypt xtsFits tweakOf xtsAesEnc blockEnc timesAlpha shiftedWord walked carried numberBlock lowWord stateBytes cipher rounds round lastRound roundKey keyExpansion expanded nextWord temp rcon xPower stateAt wordAt subBytes shiftRows mixColumns addRoundKey subWord mixColumn addWord rotWord dot sBox sBoxTable _•_ polynomialProduct reduced _⊕_ xTimes
+sealed-by-kernel = refl
