@@ -31,14 +31,18 @@ moved t x = map (λ (b : ℕ). (b + t) % 256) x
 unfoldable pub back : ℕ → Bytes → Bytes
 back t x = moved (256 - t % 256) x
 
+-- how far a key's length is from 32
+abbrev off : ℕ → ℕ
+off n = (n - 32) + (32 - n)
+
 -- a derived key is moved by the nonce's first byte, a name by the first byte of a key of 32 bytes, and by more under one of another length, and a block by the first
 -- and the last byte of a key of 64 and by the block's number
 unfoldable pub small : Cipher
 small =
     record {
       derive = λ k x. moved (getD x 0 0) k;
-      encryptName = λ k t. moved (getD k 0 0 + length k % 32) t;
-      decryptName = λ k t. back (getD k 0 0 + length k % 32) t;
+      encryptName = λ k t. moved (getD k 0 0 + off (length k)) t;
+      decryptName = λ k t. back (getD k 0 0 + off (length k)) t;
       seal = λ k n b. moved (getD k 0 0 + getD k 63 0 + n) b;
       unseal = λ k n b. back (getD k 0 0 + getD k 63 0 + n) b;
     }

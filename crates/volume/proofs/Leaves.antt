@@ -103,6 +103,7 @@ unfolding lent effect
 leaves C = record {
   numbered = λ v. numbered C v;
   refused-volume = λ v r n h. ap (λ (o : Outcome). o .volume) (refused-all C v r n h);
+  refused-add-key = λ v d k n h. refused-all C v (addKey d k) n h;
   refused-show = λ v e b n h. refused-all C v (show e b) n h;
   refused-seal = λ v i k b n h. refused-all C v (seal i k b) n h;
   refused-open = λ v i k b n h. refused-all C v (unseal i k b) n h;

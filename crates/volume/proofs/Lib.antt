@@ -18,6 +18,7 @@ pub mod Soundness
 mod Unsound
 pub mod PolicyClause
 pub mod Bytewise
+mod ContextsStay
 pub mod SealedOpens
 pub mod ShownApart
 pub mod Leaves

@@ -15,7 +15,7 @@ use Rattle.lists.proofs.Tests.{not-false, and-known, if-true, if-false, eqb-oth
 use Rattle.lists.proofs.ByteStrings.{take-bytes}
 use Rattle.lists.proofs.Slots.{by-test, by-cond, search-room}
 use Rattle.errno.specs.Refusals.{_⇒_, _>>_, isFine}
-use Rattle.errno.specs.declared.Errno.the-variants.{ENOENT, EINVAL, ENOKEY, EPERM, EEXIST, ENOTUNIQ, ENOSPC, ERANGE, EUCLEAN}
+use Rattle.errno.specs.declared.Errno.the-variants.{ENODATA, ENOENT, EINVAL, ENOKEY, EPERM, EEXIST, ENOTUNIQ, ENOSPC, ERANGE, EUCLEAN}
 use Rattle.errno.specs.declared.Checked.{Checked}
 use Rattle.errno.specs.declared.Checked.the-variants.{Fine, Refused}
 use Rattle.errno.proofs.Chains.{passed}
@@ -46,6 +46,7 @@ use Rattle.volume.proofs.SoundCore.{slot-name}
 use Rattle.volume.proofs.SoundClimb.{num}
 use Rattle.volume.proofs.SoundInvariant.{pass, is-directory, one≢zero, used-range, name-ok}
 use Rattle.volume.proofs.SoundCreate.{free-kept}
+use Rattle.volume.proofs.ContextsStay.{context-stays}
 use Rattle.volume.proofs.Bytewise.{bytewise-kept}
 
 -- ---- a request that was not refused passed its checks
@@ -361,10 +362,25 @@ module _ (C : Cipher) (v w : Volume) (e : EntryNumber) (qx : SameName v w e) (qd
         ap (λ (o : Outcome). take (length nw) (o .buffer)) dw ∙ take-append-seam nw (drop (length nw) b) ∙ shown-later ∙ name,
       )
 
+-- ---- blocks: through runs
+
+sealed-encrypted : (C : Cipher) (v : Volume) (i : InodeNumber) (n : ℕ) (b : Bytes) → (step C v (seal i n b)) .answer ≡ done → (inodeAt v i) .encrypted ≡ true
+unfolding check blockCheck
+sealed-encrypted C v i n b h =
+    let na : (m : ℕ) → refused m ≢ done = λ m q. let z : _≡_ {A = ℕ} 0 1 = cc in absurd (omega arith) in
+    pass _ EINVAL _ (was-fine C v (seal i n b) done na h) λ h₁ k₁.
+    pass _ ENOENT _ k₁ λ h₂ k₂.
+    pass _ EINVAL _ k₂ λ h₃ k₃.
+    pass _ ENODATA _ k₃ λ h₄ k₄.
+    not-false h₄
+
 pub sealed-opens : (C : Cipher) → Lawful C → SealedOpens C
 sealed-opens C law = record {
   blocks = block-opens C law;
   later-blocks = later-opens C law;
+  context-stays = λ v s i e rs t h m p. context-stays C law i rs v s t e h m p;
+  blocks-through-runs = λ v w s i n b hb d rs t h m p k.
+      later-opens C law v (m .volume) w i n b hb (context-stays C law i rs v s t (sealed-encrypted C v i n b d) h m p) k d;
   created-names = created-shows C law;
   linked-names = linked-shows C law;
   renamed-names = renamed-shows C law;

@@ -1,4 +1,4 @@
--- What a request leaves as it was: refused ones everything, show all but the name's bytes, and those that only ask the volume. Assumes nothing.
+-- What a request leaves as it was: a refused one everything, show all but the name's bytes, and one that only asks the volume as well. Assumes nothing.
 -- Sentences in quotation marks are those of documents 00 and 01, in their words.
 use Prim.Native.Nat.{ℕ}
 use mathlib.Core.Path.{_≡_}
@@ -7,7 +7,7 @@ use Rattle.lists.specs.Bytes.{Bytes}
 use Rattle.errno.specs.Refusals.{number}
 use Rattle.errno.specs.declared.Errno.{Errno}
 use Rattle.fscrypt.specs.Cipher.{Cipher}
-use Rattle.volume.specs.Request.{Request, getPolicy, find, show, seal, unseal, refused, shown, outcome}
+use Rattle.volume.specs.Request.{Request, addKey, getPolicy, find, show, seal, unseal, refused, shown, outcome}
 use Rattle.volume.specs.Step.{step}
 use Rattle.volume.specs.declared.InodeNumber.{InodeNumber}
 use Rattle.volume.specs.declared.EntryNumber.{EntryNumber}
@@ -23,6 +23,7 @@ pub record Leaves (C : Cipher) : Type 0 where
   pub numbered : (v : Volume) (r : Request) (n : ℕ) → Refuses C v r n → (e : Errno) × (n ≡ number e)
   -- "A refused request changes no byte of the shelf, nor of any buffer we lent."
   pub refused-volume : (v : Volume) (r : Request) (n : ℕ) → Refuses C v r n → (step C v r) .volume ≡ v
+  pub refused-add-key : (v : Volume) (d k : Bytes) (n : ℕ) → Refuses C v (addKey d k) n → step C v (addKey d k) ≡ outcome (refused n) k v
   pub refused-show : (v : Volume) (e : EntryNumber) (b : Bytes) (n : ℕ) → Refuses C v (show e b) n → step C v (show e b) ≡ outcome (refused n) b v
   pub refused-seal : (v : Volume) (i : InodeNumber) (k : ℕ) (b : Bytes) (n : ℕ) → Refuses C v (seal i k b) n → step C v (seal i k b) ≡ outcome (refused n) b v
   pub refused-open : (v : Volume) (i : InodeNumber) (k : ℕ) (b : Bytes) (n : ℕ) → Refuses C v (unseal i k b) n → step C v (unseal i k b) ≡ outcome (refused n) b v

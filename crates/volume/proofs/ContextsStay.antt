@@ -1,0 +1,99 @@
+-- An inode that has a context keeps it as long as it is there: set policy changes an inode that has none, create takes a free one, remove frees the inode whole,
+-- and the other requests leave the inodes. So through every run. Assumes nothing.
+use Prim.Native.Nat.{ℕ}
+use mathlib.Core.Path.{_≡_, refl, sym, _∙_, ap, subst}
+use mathlib.Core.Logic.{_≢_, _⊎_, inl, inr}
+use mathlib.Core.Bool.{true, false, true≢false, false≢true}
+use mathlib.Core.List.{List, [], _∷_, List·Memᴰ, List·Memᴰ·not-nil, List·Memᴰ·cases-cons, List·Memᴰ·head, List·Memᴰ·tail}
+use lib.ListN.{getD, set}
+use lib.Seq.{getD-set-same, getD-set-other}
+use borrow.Author.Tests.{eq-eqb}
+use Rattle.lists.specs.Bytes.{Bytes}
+use Rattle.lists.proofs.Slots.{by-eq, by-test, by-cond, within}
+use Rattle.errno.specs.declared.Checked.{Checked}
+use Rattle.errno.specs.declared.Checked.the-variants.{Fine, Refused}
+use Rattle.policy.specs.Policies.{readPolicy}
+use Rattle.fscrypt.specs.Cipher.{Cipher, Lawful}
+use Rattle.volume.specs.Volume.{noInode, noEntry, encryptedInode}
+use Rattle.volume.specs.Request.{Request, AllTyped, addKey, removeKey, setPolicy, getPolicy, create, link, rename, exchange, remove, find, show, seal, unseal, Outcome}
+use Rattle.volume.specs.Lookup.{inodeAt, isFree, entryAt, isHeld}
+use Rattle.volume.specs.Step.{childOf, withoutUnheld, withInodes, lent, check, effect, settle, step}
+use Rattle.volume.specs.Run.{Moment, momentOf, runFrom}
+use Rattle.volume.specs.Sound.{Sound, nodeAt}
+use Rattle.volume.specs.SealedOpens.{Stays}
+use Rattle.volume.specs.declared.InodeNumber.{InodeNumber}
+use Rattle.volume.specs.declared.Inode.{Inode}
+use Rattle.volume.specs.declared.Volume.{Volume}
+use Rattle.volume.proofs.SoundCreate.{free-kept}
+use Rattle.volume.proofs.Soundness.{sound-kept}
+
+-- the inode is as it was, if it is still there
+abbrev Kept : Volume → Volume → InodeNumber → Type 0
+Kept v w i = isFree (inodeAt w i) ≡ false → inodeAt w i ≡ inodeAt v i
+
+settle-kept : (v : Volume) (b : Bytes) (o : Outcome) (i : InodeNumber) → Kept v (o .volume) i → (k : Checked) → Kept v ((settle v b k o) .volume) i
+unfolding settle
+settle-kept v b o i h Fine = h
+settle-kept v b o i h (Refused e) = λ f. refl
+
+module _ (C : Cipher) (v : Volume) (s : Sound v) (i : InodeNumber) (t : (inodeAt v i) .encrypted ≡ true) where
+  is-there : (inodeAt v i) .kind ≢ 0
+  is-there z = true≢false (sym t ∙ ap (λ (n : Inode). n .encrypted) (s .free-inodes (i .0) (eq-eqb _ 0 z)))
+
+  -- a first policy is set on another inode
+  policy-kept : (j : InodeNumber) (p x : Bytes) → (inodeAt v j) .encrypted ≡ false → Kept v (withInodes v (set (v .inodes) (j .0) (encryptedInode 1 ((readPolicy p) .policy) x))) i
+  policy-kept j p x f u =
+      getD-set-other (v .inodes) (j .0) (i .0) _ noInode (λ q. true≢false (sym t ∙ ap (λ (n : ℕ). (nodeAt v n) .encrypted) q ∙ f))
+
+  -- an inode that goes, goes whole
+  unheld-kept : (j : InodeNumber) → isFree (getD (set (v .inodes) (j .0) noInode) (i .0) noInode) ≡ false → getD (set (v .inodes) (j .0) noInode) (i .0) noInode ≡ inodeAt v i
+  unheld-kept j u =
+      by-eq (i .0) (j .0)
+      (λ q.
+      let here = within (v .inodes) noInode (i .0) (λ n. is-there (ap (λ (x : Inode). x .kind) n)) in
+      let gone = ap (λ (k : ℕ). getD (set (v .inodes) k noInode) (i .0) noInode) (sym q) ∙ getD-set-same (v .inodes) (i .0) noInode noInode here in
+      absurd (true≢false (sym (ap isFree gone) ∙ u)))
+      (λ ne. getD-set-other (v .inodes) (j .0) (i .0) noInode noInode ne)
+
+  effect-kept : (r : Request) → Kept v ((effect C v r) .volume) i
+  unfolding effect withoutUnheld
+  effect-kept (addKey d k) = λ u. refl
+  effect-kept (removeKey d) = λ u. refl
+  effect-kept (setPolicy j p x) = by-cond (λ (w : Volume). Kept v w i) ((inodeAt v j) .encrypted) _ _ (λ e u. refl) (policy-kept j p x)
+  effect-kept (getPolicy j) = λ u. refl
+  effect-kept (create p kind n x) = λ u. free-kept v (childOf (inodeAt v p) kind x) (i .0) is-there
+  effect-kept (link j p n) = λ u. refl
+  effect-kept (rename e p n) = λ u. refl
+  effect-kept (exchange a b) = λ u. refl
+  effect-kept (remove e) =
+      let es = set (v .entries) (e .0) noEntry in
+      let j = entryAt v e .inode in
+      by-cond (λ (is : List Inode). isFree (getD is (i .0) noInode) ≡ false → getD is (i .0) noInode ≡ inodeAt v i) (isHeld es j) (v .inodes) (set (v .inodes) (j .0) noInode)
+      (λ h u. refl) (λ h. unheld-kept j)
+  effect-kept (find p n) = λ u. refl
+  effect-kept (show e b) = λ u. refl
+  effect-kept (seal j k b) = λ u. refl
+  effect-kept (unseal j k b) = λ u. refl
+
+  step-kept : (r : Request) → Kept v ((step C v r) .volume) i
+  unfolding step
+  step-kept r = settle-kept v (lent r) (effect C v r) i (effect-kept r) (check C v r)
+
+module _ (C : Cipher) (law : Lawful C) (i : InodeNumber) where
+  pub context-stays : (rs : List Request) (v : Volume) → Sound v → AllTyped rs → (inodeAt v i) .encrypted ≡ true → Stays C v rs i
+      → (m : Moment) → List·Memᴰ m (runFrom C v rs) → inodeAt (m .volume) i ≡ inodeAt v i
+  unfolding runFrom momentOf
+  context-stays [] v s t e h m p = absurd (List·Memᴰ·not-nil p)
+  context-stays (r ∷ rs) v s t e h m p =
+      let w = (step C v r) .volume in
+      let q : inodeAt w i ≡ inodeAt v i = step-kept C v s i e r (h (momentOf r (step C v r)) (List·Memᴰ·head refl)) in
+      go (List·Memᴰ·cases-cons p) q
+      (λ p′.
+      context-stays rs w (sound-kept C law v s r (t r (List·Memᴰ·head refl))) (λ r′ z. t r′ (List·Memᴰ·tail z)) (ap (λ (n : Inode). n .encrypted) q ∙ e)
+      (λ m′ z. h m′ (List·Memᴰ·tail z)) m p′
+      ∙ q)
+    where
+      go : (m ≡ momentOf r (step C v r)) ⊎ List·Memᴰ m (runFrom C ((step C v r) .volume) rs) → inodeAt ((step C v r) .volume) i ≡ inodeAt v i
+          → (List·Memᴰ m (runFrom C ((step C v r) .volume) rs) → inodeAt (m .volume) i ≡ inodeAt v i) → inodeAt (m .volume) i ≡ inodeAt v i
+      go (inl x) q ih = ap (λ (y : Moment). inodeAt (y .volume) i) x ∙ q
+      go (inr p′) q ih = ih p′
