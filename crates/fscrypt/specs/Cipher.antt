@@ -4,7 +4,7 @@ use Prim.Native.Nat.{ℕ}
 use mathlib.Core.Path.{_≡_}
 use lib.ListN.{length}
 use Rattle.lists.specs.Bytes.{Bytes, ByteList}
-use Rattle.ciphers.specs.Entries.{Answer, ecbEncrypt, ctsEncrypt, ctsDecrypt, xtsEncrypt, xtsDecrypt}
+use Rattle.ciphers.specs.Entries.{ecbEncrypt, ctsEncrypt, ctsDecrypt, xtsEncrypt, xtsDecrypt}
 
 pub record Cipher : Type 0 where
   -- the derived key of a master key and a nonce

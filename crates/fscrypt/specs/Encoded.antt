@@ -1,7 +1,7 @@
 -- A stored name shown without its key, document 01: letters for the bytes, six binary digits to a letter. Assumes nothing.
 use Prim.Native.Nat.{ℕ, _+_, _-_, _*_, _/_, _%_}
-use mathlib.Core.Bool.{Bool, true, false, cond}
-use mathlib.Core.List.{List, [], _∷_, _++_}
+use mathlib.Core.Bool.{cond}
+use mathlib.Core.List.{[], _∷_, _++_}
 use lib.ListN.{length, take}
 use lib.Dec.{leb, ltb}
 use Rattle.lists.specs.Bytes.{Bytes, hexDigit}

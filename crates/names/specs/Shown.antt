@@ -1,8 +1,7 @@
 -- What show reads of a stored name: whether it can be read, and the name as it is shown. Assumes nothing.
-use mathlib.Core.Bool.{Bool, cond}
+use mathlib.Core.Bool.{cond}
 use Rattle.lists.specs.Bytes.{Bytes}
 use Rattle.errno.specs.declared.Errno.the-variants.{EUCLEAN}
-use Rattle.errno.specs.declared.Checked.{Checked}
 use Rattle.errno.specs.declared.Checked.the-variants.{Fine, Refused}
 use Rattle.fscrypt.specs.Cipher.{Cipher}
 use Rattle.fscrypt.specs.Names.{packed}

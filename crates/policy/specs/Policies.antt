@@ -1,8 +1,8 @@
 -- Policies and contexts, document 01, "Policy, context, derived key": their bytes, which are valid, when two are the same, and the sizes of keys.
 -- Sentences in quotation marks are document 01's, in its words. Assumes nothing.
 use Prim.Native.Nat.{ℕ}
-use mathlib.Core.Bool.{Bool, true, false, cond, not, _&&_}
-use mathlib.Core.List.{List, [], _∷_, _++_}
+use mathlib.Core.Bool.{Bool, cond, not, _&&_}
+use mathlib.Core.List.{[], _∷_, _++_}
 use lib.ListN.{length, take, drop, getD}
 use lib.Dec.{eqb, leb}
 use Rattle.lists.specs.Bytes.{Bytes, same, zeros}

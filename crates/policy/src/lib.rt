@@ -33,7 +33,8 @@ pub struct ContextRead {
     pub context: Context,
 }
 
-// The pairs of a contents mode and a names mode that are taken. A further pair is added here and in `is_master_key_size`.
+// The pairs of a contents mode and a names mode that are taken. A further pair is added here, in `is_master_key_size` and
+// where fscrypt cuts a derived key for names.
 fn is_pair(contents: u8, names: u8) -> bool
     ensures { λ r. ⌜ r ≡ isPair contents names ⌝ }
 {

@@ -29,7 +29,7 @@ pub fn policies_hold()
 
 // What was sealed opens, and a name that was given is the name that is shown: on every volume that is sound and whose bytes are bytes, as those are that
 // requests made.
-pub fn sealed_blocks_open()
+pub fn what_was_encrypted_decrypts()
     ensures { λ _. ⌜ SealedOpens fscrypt ⌝ }
 {}
 

@@ -20,9 +20,9 @@ hasNewline s = ltb (firstAt isNewline s) (length s)
 unfoldable pub beforeNewline : Bytes → Bytes
 beforeNewline s = take (firstAt isNewline s) s
 
--- how many bytes there are up to the next newline, with it
-abbrev pub lineSize : Bytes → ℕ
-lineSize s = min (firstAt isNewline s + 1) (length s)
+-- how many bytes are taken: those up to the next newline, with it
+abbrev pub upToNewline : Bytes → ℕ
+upToNewline s = min (firstAt isNewline s + 1) (length s)
 
 -- the last byte, and the bytes with another in its stead
 abbrev pub lastOf : Bytes → ℕ
@@ -49,6 +49,6 @@ keptOn room k (b ∷ s) = keptOn room (keep room k b) s
 abbrev pub kept : ℕ → Bytes → Bytes
 kept room l = keptOn room [] l
 
--- a buffer's line before, with more bytes that come, and after: the bytes up to a newline are taken, and the newline
+-- what becomes of a line, the first `used` bytes of a buffer, where the bytes s come: those before a newline are kept, and they and the newline are taken
 abbrev pub Cuts : Bytes → ℕ → Bytes → Bytes → Cut → Type 0
-Cuts before used s after c = (c .used ≤ length before) × (take (c .used) after ≡ keptOn (length before) (take used before) (beforeNewline s)) × (c .taken ≡ lineSize s) × (c .ended ≡ hasNewline s)
+Cuts before used s after c = (c .used ≤ length before) × (take (c .used) after ≡ keptOn (length before) (take used before) (beforeNewline s)) × (c .taken ≡ upToNewline s) × (c .ended ≡ hasNewline s)

@@ -1,7 +1,7 @@
 -- Numbers: "A number is decimal digits, 0 to 18446744073709551615." Assumes nothing.
 use Prim.Native.Nat.{ℕ, zero, suc, _+_, _-_, _*_, _/_, _%_}
 use mathlib.Core.Bool.{Bool, cond, _&&_}
-use mathlib.Core.List.{List, [], _∷_, _++_}
+use mathlib.Core.List.{[], _∷_, _++_}
 use lib.Dec.{leb, ltb}
 use Rattle.lists.specs.Bytes.{Bytes}
 use Rattle.script.specs.Text.{isWithin}

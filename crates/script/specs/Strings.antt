@@ -1,9 +1,9 @@
 -- Byte strings: "an even count of hex digits of either case; or `=` and then the bytes themselves ..; or `-`, the empty string." Assumes nothing.
 use Prim.Native.Nat.{ℕ, _+_, _-_, _*_, _/_, _%_}
 use mathlib.Core.Bool.{Bool, cond, not, _&&_, _||_}
-use mathlib.Core.List.{List, [], _∷_}
+use mathlib.Core.List.{[], _∷_}
 use lib.ListN.{length, getD, drop}
-use lib.Dec.{eqb, leb, ltb}
+use lib.Dec.{eqb, leb}
 use Rattle.lists.specs.Bytes.{Bytes, same, firstAt, hexDigit}
 use Rattle.script.specs.Text.{text, isWithin}
 use Rattle.script.specs.Numbers.{isDigit}

@@ -15,7 +15,7 @@ use Rattle.lists.specs.Bytes.{Bytes, firstAt}
 use Rattle.lists.proofs.Tables.{firstAt-le, firstAt-passes}
 use Rattle.volume.specs.Volume.{fresh}
 use Rattle.volume.specs.declared.Volume.{Volume}
-use Rattle.script.specs.Cutting.{isNewline, hasNewline, beforeNewline, lineSize, keptOn, kept}
+use Rattle.script.specs.Cutting.{isNewline, hasNewline, beforeNewline, upToNewline, keptOn, kept}
 use Rattle.script.proofs.Keeping.{keptOn-length, keptOn-short, keptOn-append}
 use Rattle.session.specs.Answers.{Said, saying, malformed}
 use Rattle.session.specs.Lines.{withoutReturn, isSkipped, ended, answered, Answers}
@@ -99,31 +99,31 @@ module _ (s : Session) (x : ℕ) (h : isNewline x ≡ true) where
   said-newline = rw h (append-nil (ending s .said))
 
 module _ (c : Bytes) where
-  not-ended : hasNewline c ≡ false → take (lineSize c) c ≡ beforeNewline c
+  not-ended : hasNewline c ≡ false → take (upToNewline c) c ≡ beforeNewline c
   unfolding beforeNewline
-  not-ended h = let k : length c ≤ firstAt isNewline c = ltb-false _ _ h in let e : lineSize c ≡ firstAt isNewline c = omega (arith, firstAt-le isNewline c) in ap (λ (n : ℕ). take n c) e
+  not-ended h = let k : length c ≤ firstAt isNewline c = ltb-false _ _ h in let e : upToNewline c ≡ firstAt isNewline c = omega (arith, firstAt-le isNewline c) in ap (λ (n : ℕ). take n c) e
 
-  at-newline : hasNewline c ≡ true → take (lineSize c) c ≡ beforeNewline c ++ (getD c (firstAt isNewline c) 10 ∷ [])
+  at-newline : hasNewline c ≡ true → take (upToNewline c) c ≡ beforeNewline c ++ (getD c (firstAt isNewline c) 10 ∷ [])
   unfolding beforeNewline
-  at-newline h = let k : firstAt isNewline c < length c = ltb-true _ _ h in let e : lineSize c ≡ suc (firstAt isNewline c) = omega arith in ap (λ (n : ℕ). take n c) e ∙ take-suc c (firstAt isNewline c) 10 k
+  at-newline h = let k : firstAt isNewline c < length c = ltb-true _ _ h in let e : upToNewline c ≡ suc (firstAt isNewline c) = omega arith in ap (λ (n : ℕ). take n c) e ∙ take-suc c (firstAt isNewline c) 10 k
 
 module _ (s : Session) (c : Bytes) where
-  fed-on : hasNewline c ≡ false → fedAll s (take (lineSize c) c) ≡ lined s c
+  fed-on : hasNewline c ≡ false → fedAll s (take (upToNewline c) c) ≡ lined s c
   fed-on h = ap (fedAll s) (not-ended c h) ∙ fed-before s c
 
-  said-on : hasNewline c ≡ false → saidAll s (take (lineSize c) c) ≡ []
+  said-on : hasNewline c ≡ false → saidAll s (take (upToNewline c) c) ≡ []
   said-on h = ap (saidAll s) (not-ended c h) ∙ said-before s c
 
   module _ (h : hasNewline c ≡ true) where
     newline : isNewline (getD c (firstAt isNewline c) 10) ≡ true
     newline = firstAt-passes isNewline c 10 refl
 
-    fed-end : fedAll s (take (lineSize c) c) ≡ session (ending (lined s c) .volume) []
+    fed-end : fedAll s (take (upToNewline c) c) ≡ session (ending (lined s c) .volume) []
     fed-end =
         let x = getD c (firstAt isNewline c) 10 in
         ap (fedAll s) (at-newline c h) ∙ fedAll-append s (beforeNewline c) (x ∷ []) ∙ ap (λ (r : Session). fedAll r (x ∷ [])) (fed-before s c) ∙ fed-newline (lined s c) x newline
 
-    said-end : saidAll s (take (lineSize c) c) ≡ ending (lined s c) .said
+    said-end : saidAll s (take (upToNewline c) c) ≡ ending (lined s c) .said
     said-end =
         let x = getD c (firstAt isNewline c) 10 in
         ap (saidAll s) (at-newline c h) ∙ saidAll-append s (beforeNewline c) (x ∷ []) ∙ ap (λ (r : Bytes). r ++ saidAll (fedAll s (beforeNewline c)) (x ∷ [])) (said-before s c)
@@ -142,7 +142,7 @@ module _ (before after : Bytes) (v : Volume) (m n : ℕ) (c : Bytes) (h : length
   cut-held s k = (k .0, e ∙ ap (λ (x : Bytes). keptOn (length before) x (beforeNewline c)) (k .1) ∙ sym (keptOn-append (length before) [] (s .line) (beforeNewline c)) ∙ ap (λ (x : ℕ). kept x (s .line ++ beforeNewline c)) (sym h))
 
   -- no newline yet
-  module _ (t : ℕ) (f : t ≡ lineSize c) (g : hasNewline c ≡ false) where
+  module _ (t : ℕ) (f : t ≡ upToNewline c) (g : hasNewline c ≡ false) where
     pub feeds-on : Feeds before v m (take t c) after v n
     feeds-on s k = rw (f, fed-on s c g) (cut-held s k)
 
@@ -150,7 +150,7 @@ module _ (before after : Bytes) (v : Volume) (m n : ℕ) (c : Bytes) (h : length
     says-on s k = rw f (sym (said-on s c g))
 
   -- a newline, and what is said to the line
-  module _ (t : ℕ) (f : t ≡ lineSize c) (g : hasNewline c ≡ true) (out : Bytes) (r : Response) (a : Ends after v n out r) where
+  module _ (t : ℕ) (f : t ≡ upToNewline c) (g : hasNewline c ≡ true) (out : Bytes) (r : Response) (a : Ends after v n out r) where
     pub feeds-end : Feeds before v m (take t c) after (r .volume) 0
     unfolding keptOn
     feeds-end s k = rw (f, fed-end s c g) (a (lined s c) (cut-held s k) .0, refl)

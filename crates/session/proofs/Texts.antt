@@ -24,7 +24,7 @@ use Rattle.script.specs.Text.{text}
 use Rattle.script.specs.Numbers.{lastDigits, decimal}
 use Rattle.session.specs.Answers.{errnoName, errorText, Written, field, formName, shownHead, shownTail}
 
--- a text stored from place 0 on
+-- a text stored from position 0 on
 pub begun : (b c : Bytes) (n : ℕ) (t : Bytes) → length t < length b → (n ≡ 0 + length t) × (c ≡ sets b 0 t) → Written b c n t
 begun b c n t k h = (omega (arith, h .0), h .1, k)
 

@@ -2,19 +2,19 @@
 use Prim.Native.Nat.{ℕ, _-_, _≤_}
 use mathlib.Core.Path.{_≡_}
 use mathlib.Core.Bool.{Bool, true, false, cond, _||_}
-use mathlib.Core.List.{List, [], _∷_, _++_}
+use mathlib.Core.List.{[], _∷_, _++_}
 use lib.ListN.{length, getD, take}
 use lib.Dec.{eqb, leb, ltb}
 use Rattle.lists.specs.Bytes.{Bytes, zeros}
 use Rattle.fscrypt.specs.Cipher.{fscrypt}
-use Rattle.volume.specs.Request.{Request, addKey, removeKey, setPolicy, getPolicy, create, link, rename, exchange, remove, find, show, seal, unseal}
+use Rattle.volume.specs.Request.{addKey, removeKey, setPolicy, getPolicy, create, link, rename, exchange, remove, find, show, seal, unseal}
 use Rattle.volume.specs.Step.{step}
 use Rattle.volume.specs.declared.Volume.{Volume}
 use Rattle.volume.specs.declared.InodeNumber.{InodeNumber}
 use Rattle.volume.specs.declared.EntryNumber.{EntryNumber}
 use Rattle.script.specs.Text.{text}
 use Rattle.script.specs.Words.{firstWord, afterWord}
-use Rattle.script.specs.Commands.{verbOf, shapeOf, Reading, readWords}
+use Rattle.script.specs.Commands.{verbOf, shapeOf, readWords}
 use Rattle.script.specs.declared.Verb.{Verb}
 use Rattle.script.specs.declared.Verb.the-variants.{AddKey, RemoveKey, SetPolicy, GetPolicy, Create, Link, Rename, Exchange, Remove, Find, Show, Seal, Open, Unknown}
 use Rattle.script.specs.declared.Args.{Args}

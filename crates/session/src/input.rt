@@ -7,13 +7,14 @@ use volume::Volume;
 ghost use mathlib.Core.Path.{_≡_};
 ghost use Prim.Native.Nat.{_+_, _*_, _≤_, _<_};
 ghost use lib.ListN.{length, take};
-ghost use Rattle.script.specs.Cutting.{lineSize};
+ghost use Rattle.script.specs.Cutting.{upToNewline};
 ghost use Rattle.session.specs.Input.{Begun, Feeds, Says, Ends};
 ghost use Rattle.io.specs.Counts.{Counts};
 
 // A line of 131,072 bytes, its carriage return, and one byte more, so that a line that was cut is over the limit.
 const LINE_ROOM: usize = 131074;
 
+// Room for an answer: 1,000 bytes, and two hex digits for each byte of a line.
 const OUT_ROOM: usize = 263200;
 
 // How far the input has been read: the volume, and how many bytes of the next line the buffer holds.
@@ -59,7 +60,7 @@ fn next_answer(
     out: &mut [u8],
 ) -> Turn
     requires { ⌜ (p .used ≤ length (now line)) × (131074 ≤ length (now line)) × (length (now line) ≤ length (now beside)) × (1000 + 2 * length (now beside) ≤ length (now out)) ⌝ }
-    ensures { λ r. ⌜ (r .used ≤ length (now (line .entry))) × (r .taken ≡ lineSize (now (bytes .entry))) × (r .len ≤ length (now (out .entry))) × Feeds (now (line .entry)) (p .volume) (p .used) (take (r .taken) (now (bytes .entry))) (now (line .exit)) (r .volume) (r .used) × Says (now (line .entry)) (p .volume) (p .used) (take (r .taken) (now (bytes .entry))) (take (r .len) (now (out .exit))) ⌝ }
+    ensures { λ r. ⌜ (r .used ≤ length (now (line .entry))) × (r .taken ≡ upToNewline (now (bytes .entry))) × (r .len ≤ length (now (out .entry))) × Feeds (now (line .entry)) (p .volume) (p .used) (take (r .taken) (now (bytes .entry))) (now (line .exit)) (r .volume) (r .used) × Says (now (line .entry)) (p .volume) (p .used) (take (r .taken) (now (bytes .entry))) (take (r .len) (now (out .exit))) ⌝ }
 {
     let v = p.volume;
     let cut = cutting::take_line(line, p.used, bytes);
@@ -123,7 +124,7 @@ fn read_some(fd: i32, chunk: &mut [u8]) -> usize
 }
 
 // Answers the lines that newlines end. A proved loop has to end, and nothing says that the input does: so the loop counts its turns down, from a number
-// that no run uses up. Whatever came, the session is one that began with a fresh volume.
+// that no run uses up. The session is one of some bytes, on a fresh volume; that they are those that came is to be read here.
 fn take_all(
     fd: i32,
     line: &mut [u8],

@@ -1,5 +1,5 @@
--- No rule of `Sound` is idle: for each field a small volume that breaks it, and a proof, through that field, that this volume is not sound. It is made to break that
--- rule alone, unless a comment says otherwise: were the rule dropped, or so weak as to admit it, it would be sound, with no such proof. Assumes nothing.
+-- No rule of `Sound` is idle: for each field a small volume that breaks it, and a proof, through that field, that this volume is not sound. Each is made to break that
+-- rule alone, unless a comment says otherwise (this is not proved): without the rule it would be sound. Assumes nothing.
 use Prim.Native.Nat.{ℕ}
 use native.Mathlib.Omega.{arith}
 use mathlib.Core.Path.{refl, _∙_, ap}

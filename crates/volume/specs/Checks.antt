@@ -1,18 +1,15 @@
 -- When a request is refused, and with what: for each request its checks, in document 01's order.
 -- Sentences in quotation marks are document 01's, in its words. Assumes nothing.
 use Prim.Native.Nat.{ℕ}
-use mathlib.Core.Bool.{Bool, true, false, cond, not, _&&_, _||_}
-use mathlib.Core.List.{List}
-use lib.ListN.{length}
+use mathlib.Core.Bool.{Bool, not, _&&_, _||_}
 use lib.Dec.{eqb, leb, ltb}
 use Rattle.lists.specs.Bytes.{Bytes}
 use Rattle.errno.specs.Refusals.{_⇒_, _>>_}
 use Rattle.errno.specs.declared.Errno.the-variants.{EPERM, ENOENT, EEXIST, ENOTDIR, EINVAL, ENOSPC, ERANGE, ENOTEMPTY, ENODATA, ENOTUNIQ, EUCLEAN, ENOKEY}
 use Rattle.errno.specs.declared.Checked.{Checked}
-use Rattle.errno.specs.declared.Checked.the-variants.{Fine, Refused}
+use Rattle.errno.specs.declared.Checked.the-variants.{Fine}
 use Rattle.policy.specs.Policies.{samePolicy, policyCheck, readPolicy}
 use Rattle.policy.specs.declared.Policy.{Policy}
-use Rattle.policy.specs.declared.PolicyRead.{PolicyRead}
 use Rattle.fscrypt.specs.Cipher.{Cipher}
 use Rattle.fscrypt.specs.Names.{nameCheck}
 use Rattle.volume.specs.Volume.{keySlots, inodeSlots, entrySlots, nameOf}
@@ -21,7 +18,6 @@ use Rattle.volume.specs.Lookup.{keySlotOf, freeKeySlot, lacksKey, inodeA
 use Rattle.volume.specs.declared.InodeNumber.{InodeNumber}
 use Rattle.volume.specs.declared.EntryNumber.{EntryNumber}
 use Rattle.volume.specs.declared.Inode.{Inode}
-use Rattle.volume.specs.declared.Entry.{Entry}
 use Rattle.volume.specs.declared.Volume.{Volume}
 
 -- ---- checks that requests share

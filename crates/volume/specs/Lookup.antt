@@ -3,8 +3,8 @@
 use Prim.Native.Nat.{ℕ, zero, suc}
 use mathlib.Core.Bool.{Bool, true, false, cond, not, _&&_, _||_}
 use mathlib.Core.List.{List}
-use lib.ListN.{length, getD}
-use lib.Dec.{eqb, leb, ltb}
+use lib.ListN.{getD}
+use lib.Dec.{eqb, ltb}
 use Rattle.lists.specs.Bytes.{Bytes, same, firstAt}
 use Rattle.policy.specs.Policies.{isMasterKeySize}
 use Rattle.volume.specs.Volume.{inodeSlots, entrySlots, noKey, noInode, noEntry, keyBytes, nameOf}

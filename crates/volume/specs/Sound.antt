@@ -3,19 +3,16 @@
 use Prim.Native.Nat.{ℕ, _-_, _≤_, _<_}
 use mathlib.Core.Path.{_≡_}
 use mathlib.Core.Logic.{_≢_}
-use mathlib.Core.Bool.{Bool, true, false}
-use mathlib.Core.List.{List, _++_}
+use mathlib.Core.Bool.{true, false}
+use mathlib.Core.List.{_++_}
 use lib.ListN.{length, getD}
-use Rattle.lists.specs.Bytes.{Bytes, zeros}
+use Rattle.lists.specs.Bytes.{zeros}
 use Rattle.errno.specs.declared.Checked.the-variants.{Fine}
 use Rattle.policy.specs.Policies.{isValid, samePolicy, noContext}
-use Rattle.policy.specs.declared.Context.{Context}
 use Rattle.fscrypt.specs.Names.{nameCheck, paddedLength}
 use Rattle.volume.specs.Volume.{keySlots, inodeSlots, entrySlots, noKey, noInode, noEntry, keyBytes, nameOf}
 use Rattle.volume.specs.Lookup.{isFreeKey, inodeAt, isFree, entryAt, isVacant, climbFrom}
-use Rattle.volume.specs.Checks.{isBadKeyLength, isBadKind}
-use Rattle.volume.specs.declared.InodeNumber.{InodeNumber}
-use Rattle.volume.specs.declared.EntryNumber.{EntryNumber}
+use Rattle.volume.specs.Checks.{isBadKeyLength}
 use Rattle.volume.specs.declared.Key.{Key}
 use Rattle.volume.specs.declared.Inode.{Inode}
 use Rattle.volume.specs.declared.Entry.{Entry}

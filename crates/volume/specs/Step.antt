@@ -1,7 +1,7 @@
 -- What each request does: its check, and where that is fine its effect.
 -- Sentences in quotation marks are document 01's, in its words. Assumes nothing.
 use Prim.Native.Nat.{ℕ}
-use mathlib.Core.Bool.{Bool, true, false, cond}
+use mathlib.Core.Bool.{cond}
 use mathlib.Core.List.{List, [], _∷_}
 use lib.ListN.{length, set}
 use Rattle.lists.specs.Bytes.{Bytes, laidOver}
@@ -9,10 +9,9 @@ use Rattle.errno.specs.Refusals.{number}
 use Rattle.errno.specs.declared.Checked.{Checked}
 use Rattle.errno.specs.declared.Checked.the-variants.{Fine, Refused}
 use Rattle.policy.specs.Policies.{policyBytes, readPolicy}
-use Rattle.policy.specs.declared.PolicyRead.{PolicyRead}
 use Rattle.fscrypt.specs.Cipher.{Cipher}
 use Rattle.volume.specs.Volume.{noKey, noInode, noEntry, plainInode, encryptedInode, keySlot, entrySlot, nameOf}
-use Rattle.volume.specs.Request.{Request, addKey, removeKey, setPolicy, getPolicy, create, link, rename, exchange, remove, find, show, seal, unseal, Answer, refused, done, created, at, policyIs, shown, Outcome, outcome}
+use Rattle.volume.specs.Request.{Request, addKey, removeKey, setPolicy, getPolicy, create, link, rename, exchange, remove, find, show, seal, unseal, refused, done, created, at, policyIs, shown, Outcome, outcome}
 use Rattle.volume.specs.Lookup.{keySlotOf, freeKeySlot, inodeAt, freeInode, entryAt, freeEntry, entryNamed, isHeld}
 use Rattle.volume.specs.DirectoryNames.{derivedKey, stored, shownName, formIn}
 use Rattle.volume.specs.Checks.{isNonceNeeded, addKeyCheck, removeKeyCheck, setPolicyCheck, getPolicyCheck, createCheck, linkCheck, renameCheck, exchangeCheck, removeCheck, findCheck, showCheck, blockCheck}
