@@ -1,7 +1,7 @@
 -- An inode that has a context keeps it as long as it is there: set policy changes an inode that has none, create takes a free one, remove frees the inode whole,
 -- and the other requests leave the inodes. So through every run. Assumes nothing.
 use Prim.Native.Nat.{ℕ}
-use mathlib.Core.Path.{_≡_, refl, sym, _∙_, ap, subst}
+use mathlib.Core.Path.{_≡_, refl, sym, _∙_, ap}
 use mathlib.Core.Logic.{_≢_, _⊎_, inl, inr}
 use mathlib.Core.Bool.{true, false, true≢false, false≢true}
 use mathlib.Core.List.{List, [], _∷_, List·Memᴰ, List·Memᴰ·not-nil, List·Memᴰ·cases-cons, List·Memᴰ·head, List·Memᴰ·tail}
@@ -9,7 +9,7 @@ use lib.ListN.{getD, set}
 use lib.Seq.{getD-set-same, getD-set-other}
 use borrow.Author.Tests.{eq-eqb}
 use Rattle.lists.specs.Bytes.{Bytes}
-use Rattle.lists.proofs.Slots.{by-eq, by-test, by-cond, within}
+use Rattle.lists.proofs.Slots.{by-eq, by-cond, within}
 use Rattle.errno.specs.declared.Checked.{Checked}
 use Rattle.errno.specs.declared.Checked.the-variants.{Fine, Refused}
 use Rattle.policy.specs.Policies.{readPolicy}

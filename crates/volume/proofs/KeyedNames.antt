@@ -11,20 +11,20 @@ use lib.ListN.{length, take}
 use lib.Dec.{ltb}
 use borrow.Author.Tests.{ltb-false}
 use Rattle.lists.specs.Bytes.{Bytes, ByteList}
-use Rattle.lists.proofs.Tests.{and-left, and-right, if-false}
+use Rattle.lists.proofs.Tests.{not-false, and-left, and-right, if-false}
 use Rattle.lists.proofs.Slots.{by-test}
 use Rattle.errno.specs.Refusals.{number, _⇒_, _>>_}
 use Rattle.errno.specs.declared.Errno.the-variants.{ENOENT, ERANGE, EUCLEAN}
 use Rattle.errno.specs.declared.Checked.{Checked}
 use Rattle.errno.specs.declared.Checked.the-variants.{Fine, Refused}
-use Rattle.policy.specs.Policies.{nameKeySize}
+use Rattle.policy.specs.Policies.{isMasterKeySize, nameKeySize}
 use Rattle.fscrypt.specs.Cipher.{Cipher, Lawful, fscrypt}
 use Rattle.fscrypt.specs.Names.{nameCheck, encrypted}
 use Rattle.fscrypt.proofs.Lawfulness.{fscrypt-lawful}
 use Rattle.volume.specs.Volume.{nameOf, fresh}
-use Rattle.volume.specs.Request.{Request, show, refused, shown, Outcome, outcome, Typed, AllTyped}
-use Rattle.volume.specs.Lookup.{masterKey, descriptorOf, keyPresent, lacksKey, entryAt, isVacant}
-use Rattle.volume.specs.DirectoryNames.{derivedKey, nameKey, stored, isUnreadable, formIn}
+use Rattle.volume.specs.Request.{Request, show, refused, shown, outcome, Typed, AllTyped}
+use Rattle.volume.specs.Lookup.{keySlotOf, keyOf, masterKey, descriptorOf, keyPresent, lacksKey, entryAt, isVacant}
+use Rattle.volume.specs.DirectoryNames.{derivedKey, nameKey, stored, isUnreadable}
 use Rattle.volume.specs.Checks.{showCheck}
 use Rattle.volume.specs.Step.{lent, check, effect, settle, step}
 use Rattle.volume.specs.Run.{Moment, momentOf, runFrom, run}
@@ -36,11 +36,10 @@ use Rattle.volume.specs.declared.EntryNumber.{EntryNumber}
 use Rattle.volume.specs.declared.Inode.{Inode}
 use Rattle.volume.specs.declared.Volume.{Volume}
 use Rattle.volume.specs.declared.ShownEntry.{ShownEntry}
-use Rattle.volume.specs.declared.Form.the-variants.{Plain, Decrypted, Encoded}
 use Rattle.volume.proofs.SoundInvariant.{pass}
 use Rattle.volume.proofs.Soundness.{fresh-sound, fresh-unused, sound-kept}
 use Rattle.volume.proofs.Bytewise.{fresh-bytes, bytewise-kept}
-use Rattle.volume.proofs.SealedOpens.{was-fine, was-done, not-refused, shown-one, readable, shows}
+use Rattle.volume.proofs.SealedOpens.{was-fine, not-refused, shown-one, readable, shows}
 use Rattle.volume.proofs.NamesSince.{Since, stayed, gained, step-since}
 
 module _ (C : Cipher) where
@@ -67,15 +66,29 @@ module _ (C : Cipher) where
     is-plain : nameCheck name ≡ Fine
     bytes : ByteList name
     is-stored : s ≡ storedUnder key dir name
+    is-sized : dir .encrypted ≡ true → isMasterKeySize (dir .context .policy) (length key) ≡ true
 
   abbrev AllNamed : Names → Keys → Volume → Type 0
   AllNamed g k v = (e : ℕ) → Used v e → Named (g e) (k e) (dirOf v e) (nameOf (slotAt v e))
 
   -- ---- one request
 
-  named-since : (g : Names) (k : Keys) (v w : Volume) (o : Option Bytes) (e : ℕ) → AllNamed g k v → Since C v w o e
+  -- a key that is present has the size that the policy asks for
+  present-sized : (v : Volume) → Sound v → (dir : Inode) → lacksKey v dir ≡ false → dir .encrypted ≡ true → isMasterKeySize (dir .context .policy) (length (masterKey v (descriptorOf dir))) ≡ true
+  unfolding lacksKey keyPresent keyOf
+  present-sized v s dir h t =
+      ap (isMasterKeySize (dir .context .policy)) (s .key-sizes (keySlotOf v (descriptorOf dir))) ∙ not-false (sym (ap (λ (b : Bool). b && not (keyPresent v dir)) t) ∙ h)
+
+  sized-present : (v : Volume) → Sound v → (dir : Inode) → (dir .encrypted ≡ true → isMasterKeySize (dir .context .policy) (length (masterKey v (descriptorOf dir))) ≡ true) → lacksKey v dir ≡ false
+  unfolding lacksKey keyPresent keyOf
+  sized-present v s dir h =
+      by-test (dir .encrypted)
+      (λ t. ap₂ (λ (a b : Bool). a && not b) t (sym (ap (isMasterKeySize (dir .context .policy)) (s .key-sizes (keySlotOf v (descriptorOf dir)))) ∙ h t))
+      (λ f. ap (λ (a : Bool). a && not (keyPresent v dir)) f)
+
+  named-since : (g : Names) (k : Keys) (v w : Volume) (o : Option Bytes) (e : ℕ) → Sound w → AllNamed g k v → Since C v w o e
       → Named (later o (g e)) (renewed o (keyFor w e) (k e)) (dirOf w e) (nameOf (slotAt w e))
-  named-since g k v w o e h (stayed q u n d) =
+  named-since g k v w o e sw h (stayed q u n d) =
       let x = h e u in
       record {
         name = x .name;
@@ -84,25 +97,29 @@ module _ (C : Cipher) where
         bytes = x .bytes;
         is-stored = n ∙ x .is-stored
             ∙ ap₂ (λ (o : Option Bytes) (dir : Inode). storedUnder (renewed o (keyFor w e) (k e)) dir (x .name)) (sym q) (sym d);
+        is-sized = subst (λ (dir : Inode). dir .encrypted ≡ true → isMasterKeySize (dir .context .policy) (length (renewed o (keyFor w e) (k e))) ≡ true) (sym d)
+            (subst (λ (o : Option Bytes). dirOf v e .encrypted ≡ true → isMasterKeySize (dirOf v e .context .policy) (length (renewed o (keyFor w e) (k e))) ≡ true) (sym q) (x .is-sized));
       }
-  named-since g k v w o e h (gained n q good bytes is) =
+  named-since g k v w o e sw h (gained n q good bytes is held) =
       record {
         name = n;
         is-given = ap (λ (o : Option Bytes). later o (g e)) q;
         is-plain = good;
         bytes = bytes;
         is-stored = is ∙ stored-under w (dirOf w e) n ∙ ap (λ (o : Option Bytes). storedUnder (renewed o (keyFor w e) (k e)) (dirOf w e) n) (sym q);
+        is-sized = subst (λ (o : Option Bytes). dirOf w e .encrypted ≡ true → isMasterKeySize (dirOf w e .context .policy) (length (renewed o (keyFor w e) (k e))) ≡ true) (sym q)
+            (present-sized w sw (dirOf w e) held);
       }
 
   module _ (law : Lawful C) where
     named-kept : (g : Names) (k : Keys) (v : Volume) → Sound v → AllNamed g k v → (r : Request) → Typed r
         → AllNamed (after g r ((step C v r) .answer)) (keysAfter k (momentOf r (step C v r))) ((step C v r) .volume)
     unfolding momentOf
-    named-kept g k v s h r t e u = named-since g k v ((step C v r) .volume) _ e h (step-since C law v s r t e u)
+    named-kept g k v s h r t e u = named-since g k v ((step C v r) .volume) _ e (sound-kept C law v s r t) h (step-since C law v s r t e u)
 
     -- ---- show
 
-    module _ (g : Names) (k : Keys) (v : Volume) (w : Bytewise v) (all : AllNamed g k v) (e : EntryNumber) where
+    module _ (g : Names) (k : Keys) (v : Volume) (s : Sound v) (w : Bytewise v) (all : AllNamed g k v) (e : EntryNumber) where
       abbrev dir : Inode
       dir = dirOf v (e .0)
 
@@ -140,28 +157,20 @@ module _ (C : Cipher) where
           tests false false true s b′ h = (refl, refl)
           tests false false false s b′ h = let z : _≡_ {A = ℕ} 0 1 = cc in absurd (omega arith)
 
-      shows-given : HasKey v (e .0) (k (e .0)) → lacksKey v dir ≡ false → (u : Used v (e .0)) → ShowsAs C v e (all (e .0) u .name)
-      shows-given same held u =
+      shows-given : HasKey v (e .0) (k (e .0)) → (u : Used v (e .0)) → ShowsAs C v e (all (e .0) u .name)
+      shows-given same u =
           let x = all (e .0) u in
+          let held = sized-present v s dir (λ t. ap (λ (key : Bytes). isMasterKeySize (dir .context .policy) (length key)) (same t) ∙ x .is-sized t) in
           shows C law v w dir (w .nonces (slotAt v (e .0) .parent .0)) (x .name) (x .bytes) (x .is-plain) held e u refl (is-stored-now u same)
 
-      named-show : HasKey v (e .0) (k (e .0)) → (b : Bytes) (s : ShownEntry) → (step C v (show e b)) .answer ≡ shown s → s .form ≢ Encoded
-          → g (e .0) ≡ some (take (s .len) ((step C v (show e b)) .buffer))
-      unfolding check effect showCheck formIn lacksKey
-      named-show same b s h f =
-          let na = not-refused s in
-          let eff = was-done C v (show e b) (shown s) na h in
-          pass _ ERANGE _ (was-fine C v (show e b) (shown s) na h) λ h₁ k₁.
+      named-show : HasKey v (e .0) (k (e .0)) → (b : Bytes) (x : ShownEntry) → (step C v (show e b)) .answer ≡ shown x
+          → g (e .0) ≡ some (take (x .len) ((step C v (show e b)) .buffer))
+      unfolding check showCheck
+      named-show same b x h =
+          pass _ ERANGE _ (was-fine C v (show e b) (shown x) (not-refused x) h) λ h₁ k₁.
           pass _ ENOENT _ k₁ λ h₂ k₂.
-          let form : formIn v dir ≡ s .form = ap (λ (x : ShownEntry). x .form) (shown-one (ap (λ (o : Outcome). o .answer) (sym eff) ∙ h)) in
-          let held : lacksKey v dir ≡ false = with-key (dir .encrypted) (keyPresent v dir) (λ q. f (sym form ∙ q)) in
-          let r = shows-given same held h₂ b (ltb-false (length b) 255 h₁) in
+          let r = shows-given same h₂ b (ltb-false (length b) 255 h₁) in
           all (e .0) h₂ .is-given ∙ ap some (sym (r .3) ∙ ap (λ (n : ℕ). take n ((step C v (show e b)) .buffer)) (ap (λ (x : ShownEntry). x .len) (shown-one (sym (r .1) ∙ h))))
-        where
-          with-key : (a b : Bool) → cond a (cond b Decrypted Encoded) Plain ≢ Encoded → (a && not b) ≡ false
-          with-key true true f = refl
-          with-key true false f = absurd (f refl)
-          with-key false b f = refl
 
     shown-volume : (v : Volume) (e : EntryNumber) (b : Bytes) → (step C v (show e b)) .volume ≡ v
     unfolding step settle effect
@@ -171,17 +180,16 @@ module _ (C : Cipher) where
         go Fine = refl
         go (Refused n) = refl
 
-    moment-right : (g : Names) (k : Keys) (v : Volume) → Bytewise v → AllNamed g k v → (r : Request) → ShownByKey g k (momentOf r (step C v r))
+    moment-right : (g : Names) (k : Keys) (v : Volume) → Sound v → Bytewise v → AllNamed g k v → (r : Request) → ShownByKey g k (momentOf r (step C v r))
     unfolding momentOf
-    moment-right g k v w all r =
+    moment-right g k v s w all r =
         record {
-          unclean = λ e b q h. subst (λ (x : Volume). WrongKey x (e .0) (k (e .0))) (sym (same e b q)) (unclean-show g k v w all e b (sym (answer q) ∙ h));
-          answered = λ e b q has held u room.
-              let h = subst (λ (x : Volume). lacksKey x (dirOf x (e .0)) ≡ false) (same e b q) held in
-              let a = shows-given g k v w all e (has-key e b q has) h (subst (λ (x : Volume). Used x (e .0)) (same e b q) u) b room in
+          unclean = λ e b q h. subst (λ (x : Volume). WrongKey x (e .0) (k (e .0))) (sym (same e b q)) (unclean-show g k v s w all e b (sym (answer q) ∙ h));
+          answered = λ e b q has u room.
+              let a = shows-given g k v s w all e (has-key e b q has) (subst (λ (x : Volume). Used x (e .0)) (same e b q) u) b room in
               (a .0, answer q ∙ a .1, a .2);
-          named = λ e b q has s h f.
-              named-show g k v w all e (has-key e b q has) b s (sym (answer q) ∙ h) f ∙ ap (λ (r : Request). some (take (s .len) ((step C v r) .buffer))) (sym q);
+          named = λ e b q has x h.
+              named-show g k v s w all e (has-key e b q has) b x (sym (answer q) ∙ h) ∙ ap (λ (r : Request). some (take (x .len) ((step C v r) .buffer))) (sym q);
         }
       where
         answer : {r′ : Request} → r ≡ r′ → (step C v r) .answer ≡ (step C v r′) .answer
@@ -204,7 +212,7 @@ module _ (C : Cipher) where
     run-right [] t g k v s w all = tt
     run-right (r ∷ rs) t g k v s w all =
         let tr = t r (List·Memᴰ·head refl) in (
-          moment-right g k v w all r,
+          moment-right g k v s w all r,
           run-right rs (λ q m. t q (List·Memᴰ·tail m)) _ _ ((step C v r) .volume) (sound-kept C law v s r tr) (bytewise-kept C v w r tr) (named-kept g k v s all r tr),
         )
 

@@ -2,7 +2,7 @@
 -- left the stored name and the entry's directory as they were. Assumes nothing.
 use Prim.Native.Nat.{ℕ, _<_}
 use mathlib.Core.Path.{_≡_, refl, sym, _∙_, ap, subst}
-use mathlib.Core.Bool.{not}
+use mathlib.Core.Bool.{false, not}
 use mathlib.Core.List.{List}
 use mathlib.Core.Option.{Option, some, none}
 use lib.ListN.{length, getD, set}
@@ -19,7 +19,7 @@ use Rattle.fscrypt.specs.Cipher.{Cipher, Lawful}
 use Rattle.fscrypt.specs.Names.{nameCheck}
 use Rattle.volume.specs.Volume.{entrySlots, noInode, noEntry, nameOf, entrySlot}
 use Rattle.volume.specs.Request.{Request, addKey, removeKey, setPolicy, getPolicy, create, link, rename, exchange, remove, find, show, seal, unseal, Outcome, Typed}
-use Rattle.volume.specs.Lookup.{inodeAt, freeInode, entryAt, isVacant, freeEntry, isHeld}
+use Rattle.volume.specs.Lookup.{keySlotOf, keyOf, keyPresent, lacksKey, inodeAt, freeInode, entryAt, isVacant, freeEntry, isHeld}
 use Rattle.volume.specs.DirectoryNames.{stored}
 use Rattle.volume.specs.Checks.{setPolicyCheck, createCheck, linkCheck, renameCheck, exchangeCheck, removeCheck}
 use Rattle.volume.specs.Step.{childOf, withoutUnheld, lent, check, effect, settle, step}
@@ -43,7 +43,7 @@ use Rattle.volume.proofs.SealedOpens.{stored-same}
 -- of an entry e in use on w, the volume that a request left of v, which gave e the name o if any
 pub data Since (C : Cipher) (v w : Volume) (o : Option Bytes) (e : ℕ) : Type 0 where
   stayed : o ≡ none → Used v e → nameOf (slotAt w e) ≡ nameOf (slotAt v e) → dirOf w e ≡ dirOf v e → Since C v w o e
-  gained : (n : Bytes) → o ≡ some n → nameCheck n ≡ Fine → ByteList n → nameOf (slotAt w e) ≡ stored C w (dirOf w e) n → Since C v w o e
+  gained : (n : Bytes) → o ≡ some n → nameCheck n ≡ Fine → ByteList n → nameOf (slotAt w e) ≡ stored C w (dirOf w e) n → lacksKey w (dirOf w e) ≡ false → Since C v w o e
 
 module _ (C : Cipher) (law : Lawful C) (v : Volume) (s : Sound v) where
   -- what is claimed of each request that is done
@@ -52,7 +52,7 @@ module _ (C : Cipher) (law : Lawful C) (v : Volume) (s : Sound v) where
 
   -- ---- an entry is stored
 
-  module _ (is : List Inode) (e : ℕ) (p i : InodeNumber) (n : Bytes) (room : e < length (v .entries)) (good : nameCheck n ≡ Fine) (bytes : ByteList n)
+  module _ (is : List Inode) (e : ℕ) (p i : InodeNumber) (n : Bytes) (room : e < length (v .entries)) (good : nameCheck n ≡ Fine) (bytes : ByteList n) (held : lacksKey v (inodeAt v p) ≡ false)
       (there : nodeIn is (p .0) ≡ inodeAt v p) (others : (j : ℕ) → Used v j → nodeIn is (slotAt v j .parent .0) ≡ dirOf v j) where
     abbrev new : Entry
     new = entrySlot p i (stored C v (inodeAt v p) n)
@@ -63,13 +63,19 @@ module _ (C : Cipher) (law : Lawful C) (v : Volume) (s : Sound v) where
     abbrev w : Volume
     w = record { keys = v .keys; inodes = is; entries = es }
 
+    -- the keyring is as it was
+    lacks-same : (d : Inode) → lacksKey w d ≡ lacksKey v d
+    unfolding lacksKey keyPresent keyOf keySlotOf
+    lacks-same d = refl
+
     stored-since : (j : ℕ) → Used w j → Since C v w (onlyAt (record { 0 = e }) n j) j
     stored-since j u =
         by-eq j e
         (λ q.
         subst (λ (m : ℕ). Since C v w (onlyAt (record { 0 = e }) n m) m) (sym q)
         (gained n (if-true _ _ (eqb-self e)) good bytes
-        (ap nameOf here ∙ slot-name p i (stored C v (inodeAt v p) n) ∙ sym (stored-same C law v is es (inodeAt v p) n) ∙ ap (λ (d : Inode). stored C w d n) (sym dir))))
+        (ap nameOf here ∙ slot-name p i (stored C v (inodeAt v p) n) ∙ sym (stored-same C law v is es (inodeAt v p) n) ∙ ap (λ (d : Inode). stored C w d n) (sym dir))
+        (ap (lacksKey w) dir ∙ lacks-same (inodeAt v p) ∙ held)))
         (λ ne.
         let same : slotAt w j ≡ slotAt v j = getD-set-other (v .entries) e j new noEntry ne in
         let used : Used v j = ap isVacant (sym same) ∙ u in
@@ -92,7 +98,7 @@ module _ (C : Cipher) (law : Lawful C) (v : Volume) (s : Sound v) where
       pass _ ENOTUNIQ _ k₅ λ h₆ k₆.
       pass _ ENOSPC _ k₆ λ h₇ k₇.
       pass _ ENOSPC _ k₇ λ h₈ k₈.
-      stored-since _ (freeEntry v) p (num (freeInode v)) n (search-room isVacant (v .entries) noEntry entrySlots (s .entry-slots) h₈) (fine .0) bytes
+      stored-since _ (freeEntry v) p (num (freeInode v)) n (search-room isVacant (v .entries) noEntry entrySlots (s .entry-slots) h₈) (fine .0) bytes h₄
       (other (p .0) (is-directory v p (dir .0)))
       (λ j u. other (slotAt v j .parent .0) (s .parents j u))
     where
@@ -110,14 +116,17 @@ module _ (C : Cipher) (law : Lawful C) (v : Volume) (s : Sound v) where
       pass _ EPERM _ k₅ λ h₆ k₆.
       pass _ EEXIST _ k₆ λ h₇ k₇.
       pass _ ENOSPC _ k₇ λ h₈ k₈.
-      stored-since (v .inodes) (freeEntry v) p i n (search-room isVacant (v .entries) noEntry entrySlots (s .entry-slots) h₈) (fine .0) bytes refl (λ j u. refl)
+      stored-since (v .inodes) (freeEntry v) p i n (search-room isVacant (v .entries) noEntry entrySlots (s .entry-slots) h₈) (fine .0) bytes h₅ refl (λ j u. refl)
 
   rename-since : (e : EntryNumber) (p : InodeNumber) (n : Bytes) → ByteList n → renameCheck C v e p n ≡ Fine → Leaves (rename e p n)
   unfolding effect renameCheck namedBy naming named
   rename-since e p n bytes h =
       let fine = passed _ _ h in
       pass _ ENOENT _ (fine .1) λ h₂ k₂.
-      stored-since (v .inodes) (e .0) p (entryAt v e .inode) n (used-range (v .entries) (e .0) h₂) (fine .0) bytes refl (λ j u. refl)
+      let dir = passed _ _ k₂ in
+      pass _ ENOKEY _ (dir .1) λ h₄ k₄.
+      pass _ ENOKEY _ k₄ λ h₅ k₅.
+      stored-since (v .inodes) (e .0) p (entryAt v e .inode) n (used-range (v .entries) (e .0) h₂) (fine .0) bytes h₅ refl (λ j u. refl)
 
   -- ---- names and directories stay
 

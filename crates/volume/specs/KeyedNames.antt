@@ -3,7 +3,7 @@
 use Prim.Native.Nat.{ℕ, _≤_}
 use mathlib.Core.Path.{_≡_}
 use mathlib.Core.Logic.{_≢_}
-use mathlib.Core.Bool.{true, false}
+use mathlib.Core.Bool.{true}
 use mathlib.Core.List.{List, [], _∷_, _++_}
 use mathlib.Core.Option.{Option, some, none}
 use lib.ListN.{length, take}
@@ -12,7 +12,7 @@ use Rattle.errno.specs.Refusals.{number}
 use Rattle.errno.specs.declared.Errno.the-variants.{EUCLEAN}
 use Rattle.fscrypt.specs.Cipher.{Cipher}
 use Rattle.volume.specs.Request.{Request, show, refused, shown, AllTyped}
-use Rattle.volume.specs.Lookup.{masterKey, descriptorOf, keyPresent, lacksKey}
+use Rattle.volume.specs.Lookup.{masterKey, descriptorOf, keyPresent}
 use Rattle.volume.specs.Run.{Moment, run}
 use Rattle.volume.specs.Sound.{Used, dirOf}
 use Rattle.volume.specs.TwoRuns.{Names, namedBy, given}
@@ -57,13 +57,13 @@ pub record WrongKey (v : Volume) (e : ℕ) (key : Bytes) : Type 0 where
   pub another : keyFor v e ≢ key
 
 -- what a show answers, where the entries were given these names under these keys: EUCLEAN comes only of a wrong key; with the key that it was named under, an entry
--- in use is shown plain or decrypted, if the buffer has room; and a name so shown is the given one
+-- in use is shown plain or decrypted, if the buffer has room, and by the name that it was given
 pub record ShownByKey (g : Names) (k : Keys) (m : Moment) : Type 0 where
   pub unclean : (e : EntryNumber) (b : Bytes) → m .request ≡ show e b → m .answer ≡ refused (number EUCLEAN) → WrongKey (m .volume) (e .0) (k (e .0))
-  pub answered : (e : EntryNumber) (b : Bytes) → m .request ≡ show e b → HasKey (m .volume) (e .0) (k (e .0)) → lacksKey (m .volume) (dirOf (m .volume) (e .0)) ≡ false
+  pub answered : (e : EntryNumber) (b : Bytes) → m .request ≡ show e b → HasKey (m .volume) (e .0) (k (e .0))
       → Used (m .volume) (e .0) → 255 ≤ length b → (s : ShownEntry) × (m .answer ≡ shown s) × (s .form ≢ Encoded)
   pub named : (e : EntryNumber) (b : Bytes) → m .request ≡ show e b → HasKey (m .volume) (e .0) (k (e .0))
-      → (s : ShownEntry) → m .answer ≡ shown s → s .form ≢ Encoded → g (e .0) ≡ some (take (s .len) (m .buffer))
+      → (s : ShownEntry) → m .answer ≡ shown s → g (e .0) ≡ some (take (s .len) (m .buffer))
 
 -- at every moment, by the requests before it
 abbrev pub KeyedNames : List Moment → Type 0
