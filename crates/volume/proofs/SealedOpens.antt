@@ -73,7 +73,7 @@ done-by : (C : Cipher) (v : Volume) (r : Request) → check C v r ≡ Fine → s
 unfolding step
 done-by C v r h = settled v (lent r) (effect C v r) (check C v r) h
 
--- what a show answers is no refusal, and tells one thing
+-- what a show answers is no refusal, and speaks of one entry
 pub not-refused : (s : ShownEntry) (m : ℕ) → refused m ≢ shown s
 not-refused s m q = let z : _≡_ {A = ℕ} 0 1 = cc in absurd (omega arith)
 

@@ -63,7 +63,7 @@ within x s = withSlot 1 (entryIn 1 2 s) (withNode 2 x (holding (encryptedNode 1 
 
 -- The heads below are those of the fields of `Sound`, in its order.
 
--- ---- "Keys: at most 8 .. Things: at most 64 .. Places: at most 64"
+-- ---- document 01: "Keys: at most 8 .. Things: at most 64 .. Places: at most 64"
 
 no-ninth-key : Sound (withKeys fresh (fresh .keys ++ noKey ∷ [])) → ⊥
 unfolding fresh
@@ -77,7 +77,7 @@ no-entry-64 : Sound (withEntries fresh (fresh .entries ++ noEntry ∷ [])) → �
 unfolding fresh
 no-entry-64 s = omega (arith, s .entry-slots)
 
--- ---- "each an 8-byte descriptor and a master key of 16, 32, 48 or 64 bytes"; a descriptor is on the keyring once
+-- ---- document 01: "each an 8-byte descriptor and a master key of 16, 32, 48 or 64 bytes"; a descriptor is on the keyring once
 
 no-key-of-24 : Sound (withKey 0 (keySlot (zeros 8) (zeros 24)) fresh) → ⊥
 unfolding fresh zeros isBadKeyLength
@@ -95,7 +95,7 @@ no-descriptor-twice : Sound (withKey 1 (keySlot (zeros 8) (zeros 32)) (withKey 0
 unfolding fresh zeros
 no-descriptor-twice s = omega (arith, s .descriptors-apart 0 1 refl refl refl)
 
--- ---- "Thing 0 is the root folder; it always exists and is never encrypted."
+-- ---- document 01: "Thing 0 is the root folder; it always exists and is never encrypted."
 
 no-lacking-root : Sound (withNode 0 noInode fresh) → ⊥
 unfolding fresh
@@ -109,13 +109,13 @@ no-encrypted-root : Sound (withNode 0 (encryptedNode 1 0 (zeros 8) (nonce 1)) fr
 unfolding fresh
 no-encrypted-root s = true≢false (s .root-plain)
 
--- ---- "Kinds: 1 folder, 2 regular file, 3 symlink, 4 special"
+-- ---- document 01: "Kinds: 1 folder, 2 regular file, 3 symlink, 4 special"
 
 no-kind-5 : Sound (holding (plainInode 5)) → ⊥
 unfolding fresh
 no-kind-5 s = omega (arith, s .kinds 1)
 
--- ---- "A place joins a parent folder, a thing and a stored name of 1 to 255 bytes."
+-- ---- document 01: "A place joins a parent folder, a thing and a stored name of 1 to 255 bytes."
 
 no-entry-in-file : Sound (withSlot 1 (entryIn 1 1 (98 ∷ [])) (holding (plainInode 2))) → ⊥
 unfolding fresh
@@ -139,7 +139,7 @@ no-empty-name : Sound (listing (record { len = 255; parent = num 0; inode = num 
 unfolding fresh
 no-empty-name s = omega (arith, s .name-lengths 0 refl .0)
 
--- ---- "A thing other than the root has one place or more; a folder has exactly one."
+-- ---- document 01: "A thing other than the root has one place or more; a folder has exactly one."
 
 no-entry-of-root : Sound (withSlot 0 (entryIn 0 0 (97 ∷ [])) fresh) → ⊥
 unfolding fresh
@@ -179,7 +179,7 @@ no-other-descriptor-within : Sound (within (encryptedNode 3 3 (1 ∷ zeros 7) (n
 unfolding fresh zeros samePolicy same
 no-other-descriptor-within s = false≢true (s .policies 1 refl refl (omega arith) .same)
 
--- ---- "a special child gets no context"; a context's policy is valid, and its nonce is its own
+-- ---- document 01: "a special child gets no context"; a context's policy is valid, and its nonce is its own
 
 no-encrypted-special : Sound (holding (encryptedNode 4 0 (zeros 8) (nonce 1))) → ⊥
 unfolding fresh
@@ -213,7 +213,7 @@ no-name-of-20-within s =
     let r = s .encrypted-lengths 1 refl refl in
     by-test (leb (rounded 32 (r .0)) 255) (λ e. omega (arith, r .3 ∙ if-true _ _ e)) (λ e. omega (arith, r .3 ∙ if-false _ _ e, leb-false (rounded 32 (r .0)) 255 e))
 
--- ---- "A freed record is all zeros, and so are a record's unused bytes."
+-- ---- document 01: "A freed record is all zeros, and so are a record's unused bytes."
 
 no-descriptor-left : Sound (withKey 0 (record { len = 0; descriptor = 1 ∷ zeros 7; bytes = zeros 64 }) fresh) → ⊥
 unfolding fresh zeros
