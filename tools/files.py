@@ -4,8 +4,9 @@
     tools/files.py            write it
     tools/files.py --check    say whether it is what would be written, and exit 1 where it is not
 
-Needs Debian's python3 alone, and runs from any directory.
+It needs Debian's python3, 3.11, and runs from any directory.
 """
+import argparse
 import re
 import sys
 import textwrap
@@ -62,14 +63,14 @@ def page():
     return "\n".join(out)
 
 
-def main(words):
-    if words == []:
+def main():
+    parser = argparse.ArgumentParser(description=__doc__, formatter_class=argparse.RawDescriptionHelpFormatter)
+    parser.add_argument("--check", action="store_true", help="compare, write nothing")
+    if not parser.parse_args().check:
         PAGE.write_text(page())
-    elif words == ["--check"]:
-        sys.exit(0 if PAGE.read_text() == page() else "files.py: docs/FILES.md is not what would be written")
-    else:
-        print(__doc__, file=sys.stderr)
-        sys.exit(2)
+    elif PAGE.read_text() != page():
+        sys.exit("files.py: docs/FILES.md is not what would be written")
 
 
-main(sys.argv[1:])
+if __name__ == "__main__":
+    main()

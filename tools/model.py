@@ -6,6 +6,8 @@
 It reads requests from standard input, one to a line, runs them in order on one
 fresh volume, and writes the answers to standard output, each at once. The
 volume itself is `Volume` in bulwarkle_model/volume.py.
+
+It needs Debian's python3, 3.11, and python3-cryptography.
 """
 
 import argparse
@@ -14,11 +16,8 @@ import sys
 
 sys.dont_write_bytecode = True
 
-from bulwarkle_model.reasons import Refused  # noqa: E402
-from bulwarkle_model.script import answer, answers  # noqa: E402
+from bulwarkle_model.script import answer  # noqa: E402
 from bulwarkle_model.volume import Volume  # noqa: E402
-
-__all__ = ["Refused", "Volume", "answers", "main"]
 
 
 def main():
@@ -38,4 +37,4 @@ def main():
 
 
 if __name__ == "__main__":
-    sys.exit(main())
+    main()

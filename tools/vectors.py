@@ -4,7 +4,7 @@
     tools/vectors.py generate [KERNEL]    write both files
     tools/vectors.py check [KERNEL]       say whether both files are what `generate` would write
 
-It needs Python 3.9 or newer with python3-cryptography, and runs from any directory: the files are those of the repository that the script is in.
+It needs Debian's python3, 3.11, and python3-cryptography, and runs from any directory: the files are those of the repository that the script is in.
 Nothing of it is random: a byte string that no document gives is made from its own label by SHAKE-256.
 
 Each answer comes from an independent implementation: AES of Python's cryptography, over OpenSSL, in ECB, CBC and XTS. The ciphertext stealing of
@@ -22,6 +22,7 @@ are the stored names of those whose rounding passes 255: there document 01 decid
 the kernel's group stays as the files have it, and each answer in it is computed again.
 """
 
+import argparse
 import sys
 
 sys.dont_write_bytecode = True
@@ -30,16 +31,17 @@ from test_vectors.all_groups import all_lines  # noqa: E402
 from test_vectors.files import check, write  # noqa: E402
 
 
-def main(words):
-    if len(words) not in (1, 2) or words[0] not in ("generate", "check"):
-        print(__doc__, file=sys.stderr)
-        sys.exit(2)
-    texts = all_lines(words[1] if len(words) == 2 else None)
-    if words[0] == "check":
+def main():
+    parser = argparse.ArgumentParser(description=__doc__, formatter_class=argparse.RawDescriptionHelpFormatter)
+    parser.add_argument("command", choices=("generate", "check"))
+    parser.add_argument("kernel", nargs="?", metavar="KERNEL", help="a JSON file with a Linux kernel's values")
+    options = parser.parse_args()
+    texts = all_lines(options.kernel)
+    if options.command == "check":
         check(texts)
     else:
         write(texts)
 
 
 if __name__ == "__main__":
-    main(sys.argv[1:])
+    main()

@@ -14,4 +14,6 @@ Using them:
     compare                     the program and the model on random scripts
     tworuns                     the program on scripts that differ in key bytes only
     kernel, selftest            checks of the model itself
+    agreement                   the model and the other implementation, test_vectors
+    must                        a check that `python3 -O` keeps
 """

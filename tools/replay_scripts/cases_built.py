@@ -2,7 +2,7 @@
 
 from bulwarkle_model.names import padded_length
 
-from .written import Case, block, descriptor, key, nonce
+from .written import Case, CaseError, block, descriptor, key, nonce
 
 
 def full_of_inodes():
@@ -174,8 +174,10 @@ set-policy 1 <A{flags}> <n:1> -> ok
         answer = case.line(b"show %d" % (at + 1), "ok *")
         stored = padded_length(length, 4 << flags)
         letters = 217 if stored > 160 else -(-stored * 4 // 3)
-        assert answer.startswith(b"ok 1 %d 4 encoded %d =" % (at + 2, letters))
-        assert answer.endswith(b"%02x" % (at + 1)) or stored <= 160
+        end = b"%02x" % (at + 1) if stored > 160 else b""
+        if not (answer.startswith(b"ok 1 %d 4 encoded %d =" % (at + 2, letters))
+                and answer.endswith(end)):
+            raise CaseError(f"show {at + 1}: {answer!r} is not of {stored} bytes stored")
     return case
 
 

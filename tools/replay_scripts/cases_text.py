@@ -6,7 +6,7 @@ These are byte strings with an answer each; None stands for a skipped line.
 from bulwarkle_model.script import (LINE_MAX, SHAPES, buffer_size, byte_string, descriptor,
                                     nonce, number)
 
-from .written import Case
+from .written import Case, CaseError
 
 _PLAIN_A = "ok 0 1 2 plain 1 =a"
 
@@ -221,7 +221,8 @@ def build(lines):
     case = Case()
     for line, expected in lines:
         answer = case.line(line, expected)
-        assert (answer is None) == (expected is None), line
+        if (answer is None) != (expected is None):
+            raise CaseError(f"{line[:200]!r}: expected {expected!r}, got {answer!r}")
     return case
 
 
@@ -282,9 +283,10 @@ def long_lines_skipped():
 
 
 def long_lines_return():
-    """More blanks than the limit, then a carriage return that is not the line's last byte: it is a word. At the end of the line it is none."""
+    """More blanks than the limit, then a carriage return: a word, unless it is the last byte."""
     blanks = b" " * (LINE_MAX + 50)
-    return build([(b"show 0", "no-entry"), (blanks + b"\rx", "malformed"), (blanks + b"\r", None)]).script()
+    case = build([(b"show 0", "no-entry"), (blanks + b"\rx", "malformed"), (blanks + b"\r", None)])
+    return case.script()
 
 
 def long_lines_blank():

@@ -9,7 +9,7 @@ first is the decryption, with the first key, of what the second makes of it.
 from bulwarkle_model.ciphers import decrypt_cts, derive_key, encrypt_cts
 from bulwarkle_model.names import is_plain_name
 
-from .written import Case, expand, key, nonce
+from .written import Case, CaseError, expand, key, nonce
 
 FIRST, SECOND = key("A"), key("A", "b")
 
@@ -28,7 +28,7 @@ def crafted(stored_by, word, wanted):
         name = decrypt_cts(_names_key(FIRST, tried), stored_by(_names_key(SECOND, tried), wanted))
         if is_plain_name(name):
             return tried, name
-    raise AssertionError("no nonce found")
+    raise CaseError(f"{word}: no nonce gives a plain name")
 
 
 # Flags, the padded text that the second key shall find, and what show says of it then.

@@ -1,6 +1,5 @@
 """Running the program and the model on the same random scripts."""
 
-import shlex
 import subprocess
 import time
 
@@ -16,15 +15,28 @@ MINIMIZE_LIMIT = 30   # for shortening a script that shows a difference
 
 
 def run(program, script):
-    """The program's answers to a script; a failure of its own is told in the last line."""
+    """The program's answers to a script; a failure of its own is told in the last line.
+
+    `program` is a command and its arguments.
+    """
     try:
-        done = subprocess.run(shlex.split(program), input=script, stdout=subprocess.PIPE,
+        done = subprocess.run(program, input=script, stdout=subprocess.PIPE,
                               timeout=TIME_LIMIT, check=False)
+    except FileNotFoundError:
+        raise FileNotFoundError(
+            f"no program at {program[0]}: build it by `rt check bulwarkle`") from None
     except subprocess.TimeoutExpired as late:
         return (late.stdout or b"") + b"\n(the program did not end)\n"
     if done.returncode:
         return done.stdout + b"(the program's exit status was %d)\n" % done.returncode
     return done.stdout
+
+
+def save(path, script):
+    """Write a script that shows a difference, and say where."""
+    path.parent.mkdir(parents=True, exist_ok=True)
+    path.write_bytes(script)
+    print(f"saved as {path}")
 
 
 def random_script(seed, length, garbage):
@@ -92,7 +104,7 @@ def shortest(program, script):
     prefix = _cut_after_answer(lines, first_difference(run(program, script), answers(script))[0])
     if len(prefix) < len(lines):
         # Only a difference in the last line can need a missing last newline.
-        lines, end = (prefix, b"\n")
+        lines, end = prefix, b"\n"
     return b"\n".join(shorten(differs, lines)) + end
 
 
@@ -118,11 +130,10 @@ def _visible(line):
 def report(program, script, title, save_to):
     """Print and save the shortest script that shows a difference."""
     short = shortest(program, script)
-    save_to.write_bytes(short)
     _, got, expected = first_difference(run(program, short), answers(short))
     print(f"{title}: the program and the model differ")
     for line in short.removesuffix(b"\n").split(b"\n"):
         print(f"    {_visible(line)}")
     print(f"the program answers {_visible(got)}")
     print(f"the model answers   {_visible(expected)}")
-    print(f"saved as {save_to}")
+    save(save_to, short)

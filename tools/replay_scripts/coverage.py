@@ -70,7 +70,7 @@ class Tally:
         if failing:
             self.pairs.update((request.word, *pair) for pair in pairs_of(failing))
         elif request.word == "show":
-            form, length, name = answer.decode("ascii").split(" ")[4:]
+            form, _length, name = answer.decode("ascii").split(" ")[4:]
             if form == "encoded":
                 form += ", long" if name.startswith("=_") else ", short"
             self.forms[form, not name.startswith("=")] += 1
@@ -178,20 +178,14 @@ def gaps(tally):
         yield f"{tag}: a tag that means nothing"
 
 
-def check(directory, write_to=None):
-    """Print the report, write it where asked; returns the number of gaps."""
+def measured(directory):
+    """The report on the stored set of a directory, and all that it should cover and does not."""
     scripts = stored.read(directory)
     tally, expected = Tally(), b""
     for name, script in scripts:
         tally.script(name, script)
         expected += b"# %s\n%s" % (name.encode("ascii"), answers(script))
-    text = report(tally, len(scripts))
-    print(text)
     missing = list(gaps(tally))
     if (directory / "stdout").read_bytes() != expected:
         missing.append("stdout: not the model's answers; run generate")
-    for gap in missing:
-        print(f"NOT COVERED {gap}")
-    if write_to and not missing:
-        write_to.write_text(text, encoding="utf-8")
-    return len(missing)
+    return report(tally, len(scripts)), missing

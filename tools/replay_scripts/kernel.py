@@ -14,6 +14,10 @@ from bulwarkle_model.volume import DIRECTORY, REGULAR, Volume
 PAIR = "1/4"
 
 
+class NotValues(Exception):
+    """A file that does not have the values of a kernel."""
+
+
 def _volume_with(case, context):
     """A volume with the key of a case and, as inode 1, a directory with the policy."""
     volume = Volume()
@@ -55,19 +59,28 @@ def _policy_differs(case):
     return taken != (errno == "0" and (contents, names) == (1, 4))
 
 
+def _cases(path):
+    """The names, blocks and policies of a file, as tools/vectors.py describes it."""
+    try:
+        values = json.loads(path.read_text(encoding="ascii"))
+        names, blocks = ([case for case in values[kind] if case["pair"] == PAIR]
+                         for kind in ("names", "blocks"))
+        return names, blocks, values["policy_bytes"]
+    except (KeyError, TypeError, ValueError) as wrong:
+        raise NotValues(f"{path} is not the kernel's values: "
+                        f"{type(wrong).__name__}: {wrong}") from None
+
+
 def check(path):
     """Compare with all cases of a file; returns the number that differ.
 
     Of names whose rounding passes 255 only the cipher is compared, see above.
     """
-    with open(path, encoding="ascii") as file:
-        vectors = json.load(file)
-    names = [case for case in vectors["names"] if case["pair"] == PAIR]
-    blocks = [case for case in vectors["blocks"] if case["pair"] == PAIR]
+    names, blocks, policies = _cases(path)
     differing = 0
     for title, cases, differs in (("names", names, _name_differs),
                                   ("blocks", blocks, _block_differs),
-                                  ("policies", vectors["policy_bytes"], _policy_differs)):
+                                  ("policies", policies, _policy_differs)):
         wrong = [case for case in cases if differs(case)]
         print(f"{title}: {len(cases)} compared, {len(wrong)} differ")
         for case in wrong:

@@ -84,13 +84,18 @@ def stored_files():
     return files
 
 
+def _others(directory, files):
+    """Scripts in a directory that are not of the set."""
+    return [path for path in sorted((directory / "data").glob("*.script"))
+            if f"data/{path.name}" not in files]
+
+
 def write(directory):
     """Write the stored set; scripts there that are not of the set are removed."""
     files = stored_files()
     (directory / "data").mkdir(parents=True, exist_ok=True)
-    for old in (directory / "data").glob("*.script"):
-        if f"data/{old.name}" not in files:
-            old.unlink()
+    for other in _others(directory, files):
+        other.unlink()
     for name, content in files.items():
         (directory / name).write_bytes(content)
     total = sum(len(content) for content in files.values())
@@ -98,9 +103,11 @@ def write(directory):
 
 
 def differences(directory):
-    """Files of the stored set that are missing or not as `write` would write them."""
-    return [name for name, content in stored_files().items()
-            if not (directory / name).is_file() or (directory / name).read_bytes() != content]
+    """Files that are missing, not as `write` would write them, or not of the stored set."""
+    files = stored_files()
+    wrong = [name for name, content in files.items()
+             if not (directory / name).is_file() or (directory / name).read_bytes() != content]
+    return wrong + [f"data/{other.name}" for other in _others(directory, files)]
 
 
 def read(directory):

@@ -8,7 +8,7 @@ script, the names that show prints are compared with those given.
 from bulwarkle_model.names import LETTERS, NAME_MAX
 from bulwarkle_model.script import Malformed, byte_string, parse
 
-from .compare import run
+from .compare import run, save
 from .dice import Dice
 from .random_scripts import PROFILES, OneKeyEach, random_requests
 from .spelling import usual
@@ -141,9 +141,7 @@ def tworuns(program, count, seed, length, save_to):
         except Disagreement as wrong:
             print(f"pair {turn} of seed {seed}: {wrong}")
             for part, script in zip("ab", scripts):
-                path = save_to.with_name(f"{save_to.stem}-{part}{save_to.suffix}")
-                path.write_bytes(script)
-                print(f"saved as {path}")
+                save(save_to.with_name(f"{save_to.stem}-{part}{save_to.suffix}"), script)
             return 1
         answers += texts[0].count(b"\n")
     print(f"{count} pairs, {answers} answers each: they agree; "

@@ -26,7 +26,7 @@ from bulwarkle_model.volume import Volume
 
 
 class CaseError(Exception):
-    """A case that does not get the answer written beside it."""
+    """A case that is not written right, or does not get the answer that it must."""
 
 
 def descriptor(maker):

@@ -1,5 +1,7 @@
 """The test vectors of the program vectors, for tools/vectors.py.
 
+Its ciphers and rules share no code with the model, bulwarkle_model, so that each can be checked by the other: `scripts.py selftest` compares the two.
+
 What the answers come from:
     ciphers             the independent implementation
     rules               policies, contexts and names, by document 01

@@ -14,6 +14,7 @@ NAME_GROUPS = [worked_padding, worked_letters, plain_names, stored_names, refuse
 
 
 def all_lines(kernel):
+    """The texts of both files. `kernel` is the path of the kernel's values, or None for those in the stored files."""
     lines = Lines()
     lines.say("Made by tools/vectors.py: do not edit. A request to a line, and its answer in the same line of the other file.")
     for group in CIPHER_GROUPS + POLICY_GROUPS + NAME_GROUPS + [malformed]:

@@ -19,8 +19,8 @@ def xts_fits(key, block):
     return len(key) == 64 and len(block) == 4096
 
 
-# A byte string of the request script, of at most MOST_BYTES bytes: hex digits of either case, `=` and the bytes themselves, or `-` for none.
 def bytes_of(word):
+    """A byte string of the request script, of at most MOST_BYTES bytes: hex digits of either case, `=` and the bytes themselves, or `-` for none."""
     if word.startswith("="):
         data = word[1:].encode("ascii")
     elif word == "-":
@@ -34,8 +34,8 @@ def bytes_of(word):
     return data
 
 
-# A number of the request script: decimal digits, of at most 64 bits.
 def number_of(word):
+    """A number of the request script: decimal digits, of at most 64 bits."""
     if word == "" or set(word) - set("0123456789") or int(word) >= 2**64:
         raise Malformed
     return int(word)
@@ -46,23 +46,24 @@ def hex_of(data):
 
 
 def result(fits, run, buffer):
+    """The answer of a cipher: what `run` makes of the buffer, or EINVAL and the buffer as it was."""
     return f"0 {hex_of(run())}" if fits else f"{EINVAL} {hex_of(buffer)}"
 
 
-# The words of a line, with spaces or tabs between them.
 def words_in(line):
+    """The words of a line, with spaces or tabs between them."""
     return [word for word in line.replace("\t", " ").split(" ") if word]
 
 
-# The words after a request's name, of which there must be so many.
 def words_of(words, count):
+    """The words after a request's name, of which there must be so many."""
     if len(words) != count:
         raise Malformed
     return words
 
 
-# The one word after a request's name, a byte string.
 def only_bytes(words):
+    """The one word after a request's name, a byte string."""
     return bytes_of(*words_of(words, 1))
 
 
@@ -87,8 +88,8 @@ def answer_policy_request(name, words):
     return "yes" if read_policy(one) == read_policy(other) else "no"
 
 
-# Every word is read before anything is refused.
 def answer_name_request(name, words):
+    """The answer to a request about names. Every word is read before anything is refused."""
     if name == "check-name":
         return check_name(only_bytes(words))
     if name == "encode-name":
@@ -103,8 +104,8 @@ def answer_name_request(name, words):
     return hex_of(read_name(read_context(context), master, last))
 
 
-# 0 and what was asked for, or the errno alone.
 def or_errno(run, name, words):
+    """0 and what was asked for, or the errno alone."""
     try:
         found = run(name, words)
         return "0" if found is None else f"0 {found}"

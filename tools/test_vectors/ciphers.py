@@ -20,8 +20,8 @@ def ecb_encrypt(key, text):
     return aes(key, modes.ECB(), text)
 
 
-# CBC-CS3: the text is filled up with zeros and encrypted by CBC; the last two blocks change order, and the last is cut to what the text's end had.
 def cts_encrypt(key, text):
+    """CBC-CS3: the text is filled up with zeros and encrypted by CBC; the last two blocks change order, and the last is cut to what the text's end had."""
     if len(text) == 16:
         return ecb_encrypt(key, text)
     blocks = -(-len(text) // 16)
@@ -29,8 +29,8 @@ def cts_encrypt(key, text):
     return (cbc[:-32] + cbc[-16:] + cbc[-32:-16])[: len(text)]
 
 
-# What was cut off the last block but one is found in the decryption of the other, where the text was filled up with zeros.
 def cts_decrypt(key, text):
+    """CBC-CS3 back. What was cut off the last block but one is found in the decryption of the other, where the text was filled up with zeros."""
     if len(text) == 16:
         return aes(key, modes.ECB(), text, decrypt=True)
     at = 16 * (-(-len(text) // 16) - 2)
@@ -47,6 +47,7 @@ def xts(key, number, block, decrypt=False):
 
 
 def times(a, b):
+    """The product in the field of FIPS 197."""
     product = 0
     while b:
         product ^= a * (b & 1)
@@ -86,6 +87,7 @@ def mix_columns(state):
 
 
 def rounds_over(schedule, block):
+    """Cipher: a block encrypted under a key schedule."""
     state, last = xor(block, schedule), len(schedule) // 16 - 1
     for r in range(1, last + 1):
         state = bytes(S_BOX[state[(i + 4 * (i % 4)) % 16]] for i in range(16))
@@ -94,6 +96,7 @@ def rounds_over(schedule, block):
 
 
 def checked_schedule(key):
+    """The schedule of a key. Stops where the rounds over it do not encrypt as OpenSSL does under the key."""
     if len(key) not in (16, 24, 32):
         stop(f"OpenSSL has no AES with a key of {len(key)} bytes")
     schedule = key_expansion(key)

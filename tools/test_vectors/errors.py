@@ -6,14 +6,17 @@ ENOENT, EINVAL, ENAMETOOLONG, EUCLEAN = 2, 22, 36, 117
 
 
 class Malformed(Exception):
-    pass
+    """A line that is no request."""
 
 
 class Refused(Exception):
+    """A request that is answered with an errno."""
+
     def __init__(self, errno):
         super().__init__(errno)
         self.errno = errno
 
 
 def stop(why):
+    """End the script, and say why."""
     sys.exit(f"vectors.py: {why}")

@@ -15,6 +15,7 @@ def stored_lines(name):
 
 
 def check(made_texts):
+    """Stop where a stored file is not the text made."""
     for name, text in zip(("stdin", "stdout"), made_texts):
         stored = stored_lines(name)
         wanted = text.split("\n")[:-1]

@@ -12,14 +12,15 @@ KERNEL = "# Linux 6.1, fscrypt with version 1 policies on ext4, AES-256-XTS with
 
 
 def by_context(values, context):
+    """The values grouped by master key and context, in their order."""
     groups = {}
     for value in values:
         groups.setdefault((bytes.fromhex(value["master_key"]), bytes.fromhex(value[context])), []).append(value)
     return groups.items()
 
 
-# What the kernel stored is the ciphertext of the plain name, filled up with zeros to its padded length.
 def kernel_names(lines, names):
+    """Names by the ciphers, where the padded length is at most 255: stored is the ciphertext of the plain name, filled up with zeros. Then all by the context."""
     for (master, context), group in by_context(names, "dir_context"):
         flags = context[3]
         pairs = [(bytes.fromhex(v["plain"]), bytes.fromhex(v["cipher"])) for v in group]
@@ -34,9 +35,10 @@ def kernel_names(lines, names):
         kernel_whole_names(lines, master, context, taken, [pair for pair in pairs if pair not in taken])
 
 
-# The same names by the context. Where the rounding passes 255 the kernel differs from document 01: it fills such a name up to 255 bytes, and document 01
-# has it keep its own length. The expected values are document 01's, as this script computes them; at 255 bytes both are the same.
 def kernel_whole_names(lines, master, context, taken, kept):
+    """The same names by the context. Where the rounding passes 255 the kernel differs from document 01: it fills such a name up to 255 bytes, and document 01
+    has it keep its own length. The expected values are document 01's, as this script computes them; at 255 bytes both are the same.
+    """
     lines.group(f"The same directory, by its context and master key: {len(taken)} names as the kernel stored them, and read back")
     lines.ask("context", context, published=context)
     for plain, stored in taken:
@@ -51,8 +53,8 @@ def kernel_whole_names(lines, master, context, taken, kept):
             stop(f"a name of {len(plain)} bytes is not stored as document 01 and the kernel are said to")
 
 
-# Whether the kernel took a policy, by its modes and flags. Pairs 5/6 and 9/9, which the kernel takes and document 01 does not, are left out.
 def kernel_policies(lines, verdicts):
+    """Whether the kernel took a policy, by its modes and flags. Pairs 5/6 and 9/9, which the kernel takes and document 01 does not, are left out."""
     kept = [verdict for verdict in verdicts if verdict[:2] not in ([5, 6], [9, 9])]
     lines.group(f"{len(kept)} policies, by contents mode, names mode and flags, and whether the kernel took them; pairs 5/6 and 9/9 are left out")
     for contents, names, flags, verdict in kept:
@@ -70,6 +72,7 @@ def kernel_blocks(lines, blocks):
 
 
 def kernel_from_json(lines, path):
+    """The group, made from the kernel's values."""
     try:
         values = json.loads(Path(path).read_text())
         names, blocks = ([v for v in values[kind] if v["pair"] == "1/4"] for kind in ("names", "blocks"))
@@ -80,10 +83,11 @@ def kernel_from_json(lines, path):
         kernel_blocks(lines, blocks)
         kernel_policies(lines, values["policy_bytes"])
     except (OSError, KeyError, TypeError, ValueError) as why:
-        stop(f"{path} is not the kernel's values: {why!r}")
+        stop(f"{path} is not the kernel's values: {type(why).__name__}: {why}")
 
 
 def kernel_as_stored(lines):
+    """The group, as the stored files have it; each answer is computed again."""
     requests, answers = stored_lines("stdin"), stored_lines("stdout")
     if KERNEL not in requests or len(requests) != len(answers):
         stop("the stored files have no kernel's group, or differ in their number of lines: give the path of the kernel's values")

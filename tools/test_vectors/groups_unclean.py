@@ -7,8 +7,8 @@ from .material import made, made_context, made_name, with_byte
 from .rules import name_key, read_context, store_name
 
 
-# A group of stored names to read, whose heading says how many of them are EUCLEAN.
 def counted_group(lines, heading, requests):
+    """A group of stored names to read, whose heading says how many of them are EUCLEAN."""
     gathered = Lines()
     for context, master, stored in requests:
         gathered.tell("read-name", context, master, stored)

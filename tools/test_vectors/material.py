@@ -4,11 +4,12 @@ import hashlib
 
 
 def made(label, length):
+    """A byte string that is the same at each run, and another for another label."""
     return hashlib.shake_256(f"bulwarkle cipher vectors: {label}".encode()).digest(length)
 
 
-# A plain name: no NUL and no `/`.
 def made_name(label, length):
+    """A plain name: no NUL and no `/`."""
     return made(label, length).translate(bytes(b if b not in b"\0/" else 0x61 for b in range(256)))
 
 

@@ -1,5 +1,6 @@
 // Create, link, rename, exchange, remove, find.
 use crate::shared;
+use crate::shared::POLICY_REFUSAL;
 use errno::Checked;
 use errno::Errno;
 use fscrypt::fname;
@@ -95,7 +96,7 @@ fn linked_check(v: Volume, i: InodeNumber, p: InodeNumber, name: &[u8]) -> Check
         return Checked::Refused(Errno::ENOKEY);
     }
     if shared::is_refused_in(v, p, i) {
-        return Checked::Refused(Errno::EPERM);
+        return Checked::Refused(POLICY_REFUSAL);
     }
     if names::entry_of(v, p, name) < ENTRY_SLOTS {
         return Checked::Refused(Errno::EEXIST);
@@ -152,7 +153,7 @@ fn move_check(
         return Checked::Refused(Errno::ENOKEY);
     }
     if shared::is_refused_in(v, p, moved) {
-        return Checked::Refused(Errno::EPERM);
+        return Checked::Refused(POLICY_REFUSAL);
     }
     if climb::is_under_itself(v, moved, p) {
         return Checked::Refused(Errno::EINVAL);
@@ -192,10 +193,10 @@ fn swap_check(v: Volume, p: InodeNumber, i: InodeNumber, q: InodeNumber, j: Inod
         return Checked::Refused(Errno::ENOKEY);
     }
     if shared::is_refused_in(v, p, j) {
-        return Checked::Refused(Errno::EPERM);
+        return Checked::Refused(POLICY_REFUSAL);
     }
     if shared::is_refused_in(v, q, i) {
-        return Checked::Refused(Errno::EPERM);
+        return Checked::Refused(POLICY_REFUSAL);
     }
     if climb::is_under_itself(v, i, q) {
         return Checked::Refused(Errno::EINVAL);

@@ -17,6 +17,9 @@ pub fn lacks_key(v: Volume, p: InodeNumber) -> bool
     lookup::keyring::lacks_key(v, node)
 }
 
+// The policy refusal: policyRefusal of volume/specs/Checks.antt.
+pub const POLICY_REFUSAL: Errno = Errno::EPERM;
+
 // Whether an encrypted directory would gain an inode that lacks its policy.
 fn is_policy_refused(dir: Inode, node: Inode) -> bool
     ensures { λ r. ⌜ r ≡ isPolicyRefused dir node ⌝ }

@@ -1,5 +1,5 @@
--- The laws that callers of ciphers cite, and nothing more: what was encrypted is decrypted again, lengths are kept, and results are bytes, for every key
--- and every buffer. Each entry is `answer` of a test of lengths, so each law is one on `answer`, given what the mode does. Assumes nothing.
+-- The laws for callers of ciphers: what was encrypted is decrypted again (of XTS also the other way round), lengths are kept, and encrypted names and derived
+-- keys are bytes, for every key and every buffer. Each entry is `answer` of a test of lengths, so each law is one on `answer`, given what the mode does. Assumes nothing.
 use mathlib.Core.Path.{_≡_, refl, sym, ap, _∙_}
 use mathlib.Core.Bool.{Bool, true, false}
 use mathlib.Core.List.{List}
@@ -10,12 +10,12 @@ use Rattle.aes.specs.KeyExpansion.{roundsOf, keyExpansion}
 use Rattle.aes.proofs.ByteStates.{ByteState, cipher-bytes}
 use Rattle.lists.proofs.ByteStrings.{take-bytes, drop-bytes}
 use Rattle.aes.proofs.Spread.{keyExpansion-bytes}
-use Rattle.modes.specs.Xts.{xtsAesEnc, xtsAesDec, numberBlock}
+use Rattle.modes.specs.Xts.{lowWord, numberBlock, xtsAesEnc, xtsAesDec}
 use Rattle.modes.specs.Cts.{cbcCs3Encrypt, cbcCs3Decrypt}
 use Rattle.modes.specs.Ecb.{ecbBlocks}
 use Rattle.modes.proofs.EachBlock.{length-ecbBlocks, ecbBlocks-bytes}
-use Rattle.modes.proofs.Opened.{numberBlock-bytes, xts-dec-enc, xts-enc-dec, xtsAesEnc-bytes, xtsAesDec-bytes, length-xtsAesEnc, length-xtsAesDec}
-use Rattle.modes.proofs.Returned.{cts-round-trip, length-cbcCs3Encrypt, length-cbcCs3Decrypt, cbcCs3Encrypt-bytes, cbcCs3Decrypt-bytes}
+use Rattle.modes.proofs.Opened.{numberBlock-bytes, xts-dec-enc, xts-enc-dec, length-xtsAesEnc, length-xtsAesDec}
+use Rattle.modes.proofs.Returned.{cts-round-trip, length-cbcCs3Encrypt, length-cbcCs3Decrypt, cbcCs3Encrypt-bytes}
 use Rattle.ciphers.specs.Entries.{answer, zeroBlock, ctsFits, ctsEncrypt, ctsDecrypt, xtsFits, tweakOf, xtsEncrypt, xtsDecrypt, ecbFits, ecbEncrypt}
 use Rattle.ciphers.proofs.Fits.{cts-sizes, xts-sizes, ecb-sizes}
 
@@ -36,6 +36,10 @@ answer-back : (b : Bool) (new old : List ℕ) (fits : ℕ → Bool) (back : List
 answer-back true new old fits back e h g =
     ap (λ (c : Bool). answer c (back new) new) (ap fits (h refl) ∙ e) ∙ ap (λ (l : List ℕ). answer true l new) (g refl)
 answer-back false new old fits back e h g = ap (λ (c : Bool). answer c (back old) old) e
+
+zero-bytes : ByteState zeroBlock
+unfolding numberBlock lowWord
+zero-bytes = numberBlock-bytes 0
 
 -- ---- CBC-CS3: decryption answers as encryption did, and gives the text again
 
@@ -59,19 +63,13 @@ module _ (key l : List ℕ) where
     ctsDecrypt-ctsEncrypt =
         answer-back (ctsFits (length key) (length l)) (cbcCs3Encrypt (keyExpansion key) (roundsOf (length key / 4)) zeroBlock l) l (ctsFits (length key))
         (cbcCs3Decrypt (keyExpansion key) (roundsOf (length key / 4)) zeroBlock) refl encrypt-length
-        (λ h. cts-round-trip (keyExpansion key) (keyExpansion-bytes key hk) (roundsOf (length key / 4)) zeroBlock (numberBlock-bytes 0) l hl (cts-sizes (length key) (length l) h .1))
+        (λ h. cts-round-trip (keyExpansion key) (keyExpansion-bytes key hk) (roundsOf (length key / 4)) zeroBlock zero-bytes l hl (cts-sizes (length key) (length l) h .1))
 
     pub ctsEncrypt-bytes : ByteList ((ctsEncrypt key l) .buffer)
     unfolding ctsEncrypt
     ctsEncrypt-bytes =
         answer-bytes (ctsFits (length key) (length l)) (cbcCs3Encrypt (keyExpansion key) (roundsOf (length key / 4)) zeroBlock l) l
-        (λ h. cbcCs3Encrypt-bytes (keyExpansion key) (keyExpansion-bytes key hk) (roundsOf (length key / 4)) zeroBlock (numberBlock-bytes 0) l hl) hl
-
-    pub ctsDecrypt-bytes : ByteList ((ctsDecrypt key l) .buffer)
-    unfolding ctsDecrypt
-    ctsDecrypt-bytes =
-        answer-bytes (ctsFits (length key) (length l)) (cbcCs3Decrypt (keyExpansion key) (roundsOf (length key / 4)) zeroBlock l) l
-        (λ h. cbcCs3Decrypt-bytes (keyExpansion key) (keyExpansion-bytes key hk) (roundsOf (length key / 4)) zeroBlock (numberBlock-bytes 0) l hl) hl
+        (λ h. cbcCs3Encrypt-bytes (keyExpansion key) (keyExpansion-bytes key hk) (roundsOf (length key / 4)) zeroBlock zero-bytes l hl) hl
 
 -- ---- XTS-AES-256: each of the two undoes the other
 
@@ -111,18 +109,6 @@ module _ (key : List ℕ) (n : ℕ) (l : List ℕ) where
         answer-back (xtsFits (length key) (length l)) (xtsAesDec (keyExpansion (take 32 key)) 14 (tweakOf key n) 256 l) l (xtsFits (length key))
         (xtsAesEnc (keyExpansion (take 32 key)) 14 (tweakOf key n) 256) refl dec-length
         (λ h. xts-enc-dec (keyExpansion (take 32 key)) schedule-bytes 14 (tweakOf key n) (tweakOf-bytes key n hk) 256 l hl (xts-sizes (length key) (length l) h .1))
-
-    pub xtsEncrypt-bytes : ByteList ((xtsEncrypt key n l) .buffer)
-    unfolding xtsEncrypt
-    xtsEncrypt-bytes =
-        answer-bytes (xtsFits (length key) (length l)) (xtsAesEnc (keyExpansion (take 32 key)) 14 (tweakOf key n) 256 l) l
-        (λ h. xtsAesEnc-bytes (keyExpansion (take 32 key)) schedule-bytes 14 (tweakOf key n) (tweakOf-bytes key n hk) 256 l hl) hl
-
-    pub xtsDecrypt-bytes : ByteList ((xtsDecrypt key n l) .buffer)
-    unfolding xtsDecrypt
-    xtsDecrypt-bytes =
-        answer-bytes (xtsFits (length key) (length l)) (xtsAesDec (keyExpansion (take 32 key)) 14 (tweakOf key n) 256 l) l
-        (λ h. xtsAesDec-bytes (keyExpansion (take 32 key)) schedule-bytes 14 (tweakOf key n) (tweakOf-bytes key n hk) 256 l hl) hl
 
 -- ---- ECB
 

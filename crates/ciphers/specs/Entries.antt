@@ -5,10 +5,12 @@ use mathlib.Core.List.{List}
 use Prim.Native.Nat.{ℕ, _+_, _*_, _/_, _%_}
 use lib.Dec.{eqb, leb}
 use lib.ListN.{length, take, drop}
+use Rattle.errno.specs.Refusals.{number}
+use Rattle.errno.specs.declared.Errno.the-variants.{EINVAL}
 use Rattle.aes.specs.KeyExpansion.{roundsOf, keyExpansion}
 use Rattle.aes.specs.Cipher.{cipher}
 use Rattle.aes.specs.declared.State.{State}
-use Rattle.modes.specs.Xts.{xtsAesEnc, xtsAesDec, numberBlock}
+use Rattle.modes.specs.Xts.{zeroWord, numberBlock, xtsAesEnc, xtsAesDec}
 use Rattle.modes.specs.Cts.{cbcCs3Encrypt, cbcCs3Decrypt}
 use Rattle.modes.specs.Ecb.{ecbBlocks}
 use Rattle.ciphers.specs.declared.Status.{Status}
@@ -18,10 +20,10 @@ pub record Answer : Type 0 where
   pub status : Status
   pub buffer : List ℕ
 
--- where the lengths are taken: done, and the buffer becomes new; else EINVAL, which is 22, and the buffer keeps every byte
+-- where the lengths are taken: done, which is 0, and the buffer becomes new; else EINVAL, and the buffer keeps every byte
 abbrev pub answer : Bool → List ℕ → List ℕ → Answer
 answer true new old = record { status = record { errno = 0 }; buffer = new }
-answer false new old = record { status = record { errno = 22 }; buffer = old }
+answer false new old = record { status = record { errno = number EINVAL }; buffer = old }
 
 -- ---- CBC-CS3 under a key of 16 or 32 bytes, from an initialization vector of zeros
 
@@ -30,7 +32,7 @@ unfoldable pub ctsFits : ℕ → ℕ → Bool
 ctsFits key text = (leb 16 text && leb text 4096) && (eqb key 16 || eqb key 32)
 
 abbrev pub zeroBlock : State
-zeroBlock = numberBlock 0
+zeroBlock = record { c0 = zeroWord; c1 = zeroWord; c2 = zeroWord; c3 = zeroWord }
 
 unfoldable pub ctsEncrypt : List ℕ → List ℕ → Answer
 ctsEncrypt key text =
@@ -48,15 +50,15 @@ xtsFits key block = eqb key 64 && eqb block 4096
 
 -- the tweak of a block's first 16 bytes: the block's number, the lowest byte first, enciphered under the second half
 unfoldable pub tweakOf : List ℕ → ℕ → State
-tweakOf key number = cipher (keyExpansion (drop 32 key)) 14 (numberBlock number)
+tweakOf key number = cipher (keyExpansion (drop 32 key)) (roundsOf 8) (numberBlock number)
 
 unfoldable pub xtsEncrypt : List ℕ → ℕ → List ℕ → Answer
 xtsEncrypt key number block =
-    answer (xtsFits (length key) (length block)) (xtsAesEnc (keyExpansion (take 32 key)) 14 (tweakOf key number) 256 block) block
+    answer (xtsFits (length key) (length block)) (xtsAesEnc (keyExpansion (take 32 key)) (roundsOf 8) (tweakOf key number) 256 block) block
 
 unfoldable pub xtsDecrypt : List ℕ → ℕ → List ℕ → Answer
 xtsDecrypt key number block =
-    answer (xtsFits (length key) (length block)) (xtsAesDec (keyExpansion (take 32 key)) 14 (tweakOf key number) 256 block) block
+    answer (xtsFits (length key) (length block)) (xtsAesDec (keyExpansion (take 32 key)) (roundsOf 8) (tweakOf key number) 256 block) block
 
 -- ---- ECB under a key of 16 bytes, for key derivation
 
@@ -65,4 +67,4 @@ unfoldable pub ecbFits : ℕ → ℕ → Bool
 ecbFits key text = eqb key 16 && (eqb (text % 16) 0 && (leb 16 text && leb text 64))
 
 unfoldable pub ecbEncrypt : List ℕ → List ℕ → Answer
-ecbEncrypt key text = answer (ecbFits (length key) (length text)) (ecbBlocks (keyExpansion key) 10 text (length text / 16)) text
+ecbEncrypt key text = answer (ecbFits (length key) (length text)) (ecbBlocks (keyExpansion key) (roundsOf 4) text (length text / 16)) text

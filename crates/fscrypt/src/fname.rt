@@ -6,13 +6,12 @@ use errno::Checked;
 use errno::Errno;
 use lists::zeros;
 ghost use mathlib.Core.Path.{_≡_};
-ghost use mathlib.Core.List.{[], _++_};
 ghost use Prim.Native.Nat.{_≤_, max};
-ghost use lib.ListN.{length, take, drop};
+ghost use lib.ListN.{length};
 ghost use Rattle.errno.specs.Refusals.{isFine};
 ghost use Rattle.lists.specs.Bytes.{firstAt, laidOver};
-ghost use Rattle.fscrypt.specs.Cipher.{fscrypt, encryptName, decryptName};
-ghost use Rattle.fscrypt.specs.Names.{isNul, isNulOrSlash, isNotNul, isDotName, isBadName, nameCheck, multiple, paddedLength, padded, isAllNul, beforeNul, readPadded, nameBytes, packed};
+ghost use Rattle.fscrypt.specs.Cipher.{fscrypt, decryptName};
+ghost use Rattle.fscrypt.specs.Names.{isNul, isNulOrSlash, isDotName, isBadName, nameCheck, multiple, paddedLength, padded, isAllNul, readPadded, nameBytes, packed};
 ghost use Rattle.fscrypt.specs.Names;
 
 // Plain names
@@ -23,7 +22,7 @@ fn is_nul_or_slash(b: u8) -> bool
     if b == 0 {
         return true;
     }
-    b == 47
+    b == b'/'
 }
 
 fn first_nul_or_slash(s: &[u8]) -> usize
@@ -177,10 +176,10 @@ fn pad(flags: u8, name: &[u8]) -> Name
 
 // Stored names
 
-// A plain name as it is stored under the derived key of its directory.
-pub fn encrypt_name(key: [u8; 64], flags: u8, name: &[u8]) -> Name
+// A plain name as it is stored under the names key of its directory.
+pub fn encrypt_name(key: &[u8], flags: u8, name: &[u8]) -> Name
     requires { ⌜ length (now name) ≤ 255 ⌝ }
-    ensures { λ r. ⌜ r ≡ packed (Names.encrypted fscrypt (take 32 key) flags (now (name .entry))) ⌝ }
+    ensures { λ r. ⌜ r ≡ packed (Names.encrypted fscrypt (now (key .entry)) flags (now (name .entry))) ⌝ }
 {
     let plain = pad(flags, name);
     let mut bytes = plain.bytes;
@@ -193,8 +192,8 @@ pub fn encrypt_name(key: [u8; 64], flags: u8, name: &[u8]) -> Name
 }
 
 // The bytes of a stored name, decrypted.
-fn decrypted(key: [u8; 64], stored: Name) -> Name
-    ensures { λ r. ⌜ (r .len ≡ stored .len) × (nameBytes r ≡ decryptName (take 32 key) (nameBytes stored)) ⌝ }
+fn decrypted(key: &[u8], stored: Name) -> Name
+    ensures { λ r. ⌜ (r .len ≡ stored .len) × (nameBytes r ≡ decryptName (now (key .entry)) (nameBytes stored)) ⌝ }
 {
     let mut bytes = stored.bytes;
     let len = stored.len as usize;
@@ -239,9 +238,9 @@ fn read_padded(flags: u8, b: &[u8]) -> NameRead
     }
 }
 
-// A stored name as it is read under the derived key of its directory.
-pub fn decrypt_name(key: [u8; 64], flags: u8, stored: Name) -> NameRead
-    ensures { λ r. ⌜ r ≡ readPadded flags (decryptName (take 32 key) (nameBytes stored)) ⌝ }
+// A stored name as it is read under the names key of its directory.
+pub fn decrypt_name(key: &[u8], flags: u8, stored: Name) -> NameRead
+    ensures { λ r. ⌜ r ≡ readPadded flags (decryptName (now (key .entry)) (nameBytes stored)) ⌝ }
 {
     let plain = decrypted(key, stored);
     let bytes = plain.bytes;

@@ -1,7 +1,5 @@
 // The derived key of an inode, and the ciphers under it.
 ghost use mathlib.Core.Path.{_≡_};
-ghost use Prim.Native.Nat.{_≤_};
-ghost use lib.ListN.{length, take};
 ghost use Rattle.fscrypt.specs.Cipher.{derive, encryptName, decryptName, seal, unseal};
 
 // The derived key: the master key's blocks under AES-128 in ECB mode, the nonce being the AES key.
@@ -13,17 +11,17 @@ pub fn derive_key(master: [u8; 64], nonce: [u8; 16]) -> [u8; 64]
     key
 }
 
-// A padded name encrypted in place under the first 32 bytes of a derived key.
-pub fn encrypt_text(key: [u8; 64], text: &mut [u8])
-    ensures { λ _. ⌜ now (text .exit) ≡ encryptName (take 32 key) (now (text .entry)) ⌝ }
+// A padded name encrypted in place under a names key, which is the start of a derived key.
+pub fn encrypt_text(key: &[u8], text: &mut [u8])
+    ensures { λ _. ⌜ now (text .exit) ≡ encryptName (now (key .entry)) (now (text .entry)) ⌝ }
 {
-    ciphers::cts_encrypt(&key[..32], text);
+    ciphers::cts_encrypt(key, text);
 }
 
-pub fn decrypt_text(key: [u8; 64], text: &mut [u8])
-    ensures { λ _. ⌜ now (text .exit) ≡ decryptName (take 32 key) (now (text .entry)) ⌝ }
+pub fn decrypt_text(key: &[u8], text: &mut [u8])
+    ensures { λ _. ⌜ now (text .exit) ≡ decryptName (now (key .entry)) (now (text .entry)) ⌝ }
 {
-    ciphers::cts_decrypt(&key[..32], text);
+    ciphers::cts_decrypt(key, text);
 }
 
 // A block of contents sealed in place under a derived key.

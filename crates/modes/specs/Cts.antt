@@ -35,10 +35,11 @@ lastTwo w nr c l i =
     let a : State = cbcStep w nr c (stateAt l i) in
     stateBytes (cbcStep w nr a (stateAt l (i + 16))) ++ take (length l - (i + 16)) (stateBytes a)
 
--- the block at a position of a list, with the bytes of s for those that lie past the list's end
+-- four bytes at a position of a list, with those of w where they lie past the list's end
 unfoldable pub filledWord : List ℕ → ℕ → Word → Word
 filledWord l i w = record { r0 = getD l i (w .r0); r1 = getD l (i + 1) (w .r1); r2 = getD l (i + 2) (w .r2); r3 = getD l (i + 3) (w .r3) }
 
+-- the same of a block, with the bytes of s
 unfoldable pub filled : List ℕ → ℕ → State → State
 filled l i s =
     record { c0 = filledWord l i (s .c0); c1 = filledWord l (i + 4) (s .c1); c2 = filledWord l (i + 8) (s .c2); c3 = filledWord l (i + 12) (s .c3) }

@@ -45,10 +45,15 @@ plainly-read C v dir s = go (isFine (paddingCheck (dir .context .policy .flags) 
     go true b = record { whole = ap (λ (x : Bytes). record { checked = Fine; name = packed x }) (sym (nameBytes-packed (beforeNul b))) }
     go false b = record { whole = ap (λ (x : Bytes). record { checked = Refused EUCLEAN; name = packed x }) (sym (nameBytes-packed [])) }
 
-read-with : (C : Cipher) (v : Volume) (dir : Inode) (s : Bytes) (n : Name) (key : Bytes) → n ≡ packed s → key ≡ derivedKey C v dir
-    → readPadded (dir .context .policy .flags) (C .decryptName (take 32 key) (nameBytes n)) ≡ readName C v dir s
-unfolding readName nameKey nameKeySize
-read-with C v dir s n key h d = ap₂ (λ (k b : Bytes). readPadded (dir .context .policy .flags) (C .decryptName (take 32 k) b)) d (ap nameBytes h ∙ nameBytes-packed s)
+-- the key for names, as code cuts it off a derived key
+pub names-key : (C : Cipher) (v : Volume) (dir : Inode) (d key : Bytes) (n : ℕ) → d ≡ derivedKey C v dir → n ≡ nameKeySize (dir .context .policy) → key ≡ take n d → key ≡ nameKey C v dir
+unfolding nameKey
+names-key C v dir d key n e h k = k ∙ ap₂ take h e
+
+read-with : (C : Cipher) (v : Volume) (dir : Inode) (s : Bytes) (n : Name) (key : Bytes) → n ≡ packed s → key ≡ nameKey C v dir
+    → readPadded (dir .context .policy .flags) (C .decryptName key (nameBytes n)) ≡ readName C v dir s
+unfolding readName
+read-with C v dir s n key h d = ap₂ (λ (k b : Bytes). readPadded (dir .context .policy .flags) (C .decryptName k b)) d (ap nameBytes h ∙ nameBytes-packed s)
 
 -- a key that is present fills its slot
 pub whole-key : (v : Volume) (i : Inode) (k : Key) → k ≡ keyOf v (descriptorOf i) → keyPresent v i ≡ true → length (k .bytes) ≡ 64 → k .bytes ≡ keyBytes (keyOf v (descriptorOf i))
@@ -71,9 +76,9 @@ module _ (C : Cipher) (v : Volume) (dir : Inode) where
   unfolding stored
   stored-plain n r e h = h ∙ ap packed (sym (if-false _ _ e))
 
-  pub stored-encrypted : (n key : Bytes) (r : Name) → dir .encrypted ≡ true → key ≡ derivedKey C v dir → r ≡ packed (encrypted C (take 32 key) (dir .context .policy .flags) n) → r ≡ packed (stored C v dir n)
-  unfolding stored nameKey nameKeySize
-  stored-encrypted n key r e d h = h ∙ ap (λ (k : Bytes). packed (encrypted C (take 32 k) (dir .context .policy .flags) n)) d ∙ ap packed (sym (if-true _ _ e))
+  pub stored-encrypted : (n key : Bytes) (r : Name) → dir .encrypted ≡ true → key ≡ nameKey C v dir → r ≡ packed (encrypted C key (dir .context .policy .flags) n) → r ≡ packed (stored C v dir n)
+  unfolding stored
+  stored-encrypted n key r e d h = h ∙ ap (λ (k : Bytes). packed (encrypted C k (dir .context .policy .flags) n)) d ∙ ap packed (sym (if-true _ _ e))
 
   module _ (e : EntryNumber) (s : Bytes) where
     -- by whether the directory is encrypted and its key is present
@@ -100,11 +105,11 @@ module _ (C : Cipher) (v : Volume) (dir : Inode) where
         (g ∙ ap (λ (x : Name). packed (encoded (nameBytes x) (e .0))) h ∙ ap (λ (b : Bytes). packed (encoded b (e .0))) (nameBytes-packed s))
         ∙ sym (shown-cases true false p q)
 
-    pub shown-decrypted : (n : Name) (key : Bytes) (r : NameRead) → dir .encrypted ≡ true → keyPresent v dir ≡ true → n ≡ packed s → key ≡ derivedKey C v dir
-        → r ≡ readPadded (dir .context .policy .flags) (C .decryptName (take 32 key) (nameBytes n)) → r ≡ shownRead C v dir e s
+    pub shown-decrypted : (n : Name) (key : Bytes) (r : NameRead) → dir .encrypted ≡ true → keyPresent v dir ≡ true → n ≡ packed s → key ≡ nameKey C v dir
+        → r ≡ readPadded (dir .context .policy .flags) (C .decryptName key (nameBytes n)) → r ≡ shownRead C v dir e s
     shown-decrypted n key r p q h d g = g ∙ same ∙ again (readName C v dir s) reads ∙ sym (shown-cases true true p q)
       where
-        same : readPadded (dir .context .policy .flags) (C .decryptName (take 32 key) (nameBytes n)) ≡ readName C v dir s
+        same : readPadded (dir .context .policy .flags) (C .decryptName key (nameBytes n)) ≡ readName C v dir s
         same = read-with C v dir s n key h d
 
         reads : Plainly (readName C v dir s)

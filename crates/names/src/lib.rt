@@ -48,7 +48,8 @@ pub fn stored_name(v: Volume, dir: Inode, name: &[u8]) -> Name
     let c = dir.context;
     let p = c.policy;
     let key = derived_key(v, dir);
-    fname::encrypt_name(key, p.flags, name)
+    let size = policy::name_key_size(p);
+    fname::encrypt_name(&key[..size], p.flags, name)
 }
 
 // The entry that bears this name in the directory, or the number of slots.
@@ -90,5 +91,6 @@ pub fn shown_name(v: Volume, dir: Inode, n: EntryNumber, e: Entry) -> NameRead
     let c = dir.context;
     let p = c.policy;
     let key = derived_key(v, dir);
-    fname::decrypt_name(key, p.flags, name)
+    let size = policy::name_key_size(p);
+    fname::decrypt_name(&key[..size], p.flags, name)
 }

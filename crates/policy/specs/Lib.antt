@@ -1,2 +1,3 @@
 -- The definitions of policy.
 pub mod Policies
+pub mod RoundTrips

@@ -5,7 +5,9 @@ use errno::Checked;
 use errno::Errno;
 use lists::zeros;
 ghost use mathlib.Core.Path.{_≡_};
-ghost use Rattle.policy.specs.Policies.{isPair, isMasterKeySize, isValid, samePolicy, noPolicy, noContext, readPolicy, readContext, refusedPolicy, refusedContext, policyBytes, contextBytes};
+ghost use Prim.Native.Nat.{_≤_};
+ghost use Rattle.policy.specs.Policies.{isPair, isMasterKeySize, nameKeySize, isValid, samePolicy, noPolicy, noContext, readPolicy, readContext, refusedPolicy, refusedContext, policyBytes, contextBytes};
+ghost use Rattle.policy.specs.RoundTrips.{RoundTrips};
 
 // A policy: what a directory's files are encrypted with.
 pub struct Policy {
@@ -33,19 +35,25 @@ pub struct ContextRead {
     pub context: Context,
 }
 
-// The pairs of a contents mode and a names mode that are taken. A further pair is added here, in `is_master_key_size` and
-// where fscrypt cuts a derived key for names.
+// The pairs of a contents mode and a names mode that are taken. The sizes of a further pair's keys stand in the two functions below.
 fn is_pair(contents: u8, names: u8) -> bool
     ensures { λ r. ⌜ r ≡ isPair contents names ⌝ }
 {
     contents == 1 && names == 4
 }
 
-// Whether a master key of this many bytes is what a policy asks for. A further pair of modes would differ here.
+// Whether a master key of this many bytes is what a policy asks for.
 pub fn is_master_key_size(p: Policy, n: u8) -> bool
     ensures { λ r. ⌜ r ≡ isMasterKeySize p n ⌝ }
 {
     n == 64
+}
+
+// How many bytes of a derived key, the first ones, encrypt names.
+pub fn name_key_size(p: Policy) -> usize
+    ensures { λ r. ⌜ (r ≡ nameKeySize p) × (r ≤ 64) ⌝ }
+{
+    32
 }
 
 pub fn is_valid(p: Policy) -> bool
@@ -188,3 +196,8 @@ pub fn context_bytes(c: Context) -> [u8; 28]
     lists::copy_to(&mut b, 12, &x);
     b
 }
+
+// What was written is read back, and what was read is written back, of contexts and of policies. The function does nothing: its `ensures` is the theorem.
+pub fn bytes_round_trip()
+    ensures { λ _. ⌜ RoundTrips ⌝ }
+{}

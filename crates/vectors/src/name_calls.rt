@@ -84,17 +84,14 @@ fn key_of(context: Context, master: [u8; 64]) -> [u8; 64] {
     keysetup::derive_key(master, nonce)
 }
 
-// The padding flags of a directory.
-fn flags_of(context: Context) -> u8 {
-    let p = context.policy;
-    p.flags
-}
-
 // A name of at most 255 bytes, as the directory with this context stores it.
 fn store(context: Context, master: [u8; 64], name: &[u8])
     requires { ⌜ length (now name) ≤ 255 ⌝ }
 {
-    write_name(fname::encrypt_name(key_of(context, master), flags_of(context), name));
+    let key = key_of(context, master);
+    let p = context.policy;
+    let size = policy::name_key_size(p);
+    write_name(fname::encrypt_name(&key[0..size], p.flags, name));
 }
 
 // The same, or the refusal of a name that is not plain.
@@ -158,7 +155,10 @@ fn read_under(read: ContextRead, master: [u8; 64], stored: Name) {
         return;
     };
     let context = read.context;
-    write_read(fname::decrypt_name(key_of(context, master), flags_of(context), stored));
+    let key = key_of(context, master);
+    let p = context.policy;
+    let size = policy::name_key_size(p);
+    write_read(fname::decrypt_name(&key[0..size], p.flags, stored));
 }
 
 // read-name CONTEXT MASTERKEY STORED

@@ -21,7 +21,7 @@ use Rattle.volume.specs.Volume.{entrySlots, noInode, noEntry, nameOf, en
 use Rattle.volume.specs.Request.{Request, addKey, removeKey, setPolicy, getPolicy, create, link, rename, exchange, remove, find, show, seal, unseal, Outcome, Typed}
 use Rattle.volume.specs.Lookup.{keySlotOf, keyOf, keyPresent, lacksKey, inodeAt, freeInode, entryAt, isVacant, freeEntry, isHeld}
 use Rattle.volume.specs.DirectoryNames.{stored}
-use Rattle.volume.specs.Checks.{setPolicyCheck, createCheck, linkCheck, renameCheck, exchangeCheck, removeCheck}
+use Rattle.volume.specs.Checks.{policyRefusal, setPolicyCheck, createCheck, linkCheck, renameCheck, exchangeCheck, removeCheck}
 use Rattle.volume.specs.Step.{childOf, withoutUnheld, lent, check, effect, settle, step}
 use Rattle.volume.specs.Sound.{Sound, Used, nodeAt, slotAt, dirOf}
 use Rattle.volume.specs.TwoRuns.{onlyAt, named, naming, namedBy}
@@ -113,7 +113,7 @@ module _ (C : Cipher) (law : Lawful C) (v : Volume) (s : Sound v) where
       let dir = passed _ _ k₂ in
       pass _ EPERM _ (dir .1) λ h₄ k₄.
       pass _ ENOKEY _ k₄ λ h₅ k₅.
-      pass _ EPERM _ k₅ λ h₆ k₆.
+      pass _ policyRefusal _ k₅ λ h₆ k₆.
       pass _ EEXIST _ k₆ λ h₇ k₇.
       pass _ ENOSPC _ k₇ λ h₈ k₈.
       stored-since (v .inodes) (freeEntry v) p i n (search-room isVacant (v .entries) noEntry entrySlots (s .entry-slots) h₈) (fine .0) bytes h₅ refl (λ j u. refl)

@@ -16,10 +16,10 @@ use Rattle.fscrypt.specs.Cipher.{Cipher, Lawful}
 use Rattle.fscrypt.specs.Names.{nameCheck}
 use Rattle.volume.specs.Request.{rename, link, exchange, refused, Outcome}
 use Rattle.volume.specs.Lookup.{inodeAt, isDirectory, entryAt}
-use Rattle.volume.specs.Checks.{directoryCheck, linkCheck, renameCheck, exchangeCheck}
+use Rattle.volume.specs.Checks.{directoryCheck, policyRefusal, linkCheck, renameCheck, exchangeCheck}
 use Rattle.volume.specs.Step.{lent, check, effect, settle, step}
 use Rattle.volume.specs.Sound.{Sound, MayHold, Used, dirOf, nodeOf}
-use Rattle.volume.specs.PolicyClause.{WouldLack, LinkReady, RenameReady, ExchangeReady, policyRefusal, GivesRefusal, PolicyClause}
+use Rattle.volume.specs.PolicyClause.{WouldLack, LinkReady, RenameReady, ExchangeReady, GivesRefusal, PolicyClause}
 use Rattle.volume.specs.declared.InodeNumber.{InodeNumber}
 use Rattle.volume.specs.declared.EntryNumber.{EntryNumber}
 use Rattle.volume.specs.declared.Volume.{Volume}

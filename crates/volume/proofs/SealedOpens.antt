@@ -29,7 +29,7 @@ use Rattle.volume.specs.Volume.{entrySlots, noInode, noEntry, keyBytes, 
 use Rattle.volume.specs.Request.{Request, create, link, rename, show, seal, unseal, Answer, refused, done, created, at, shown, Outcome, outcome, Typed}
 use Rattle.volume.specs.Lookup.{keySlotOf, keyOf, masterKey, descriptorOf, keyPresent, lacksKey, inodeAt, freeInode, entryAt, isVacant, freeEntry}
 use Rattle.volume.specs.DirectoryNames.{derivedKey, nameKey, stored, readName, shownName, isUnreadable, formIn}
-use Rattle.volume.specs.Checks.{blockCheck, showCheck, createCheck, linkCheck, renameCheck}
+use Rattle.volume.specs.Checks.{policyRefusal, blockCheck, showCheck, createCheck, linkCheck, renameCheck}
 use Rattle.volume.specs.Step.{lent, check, effect, settle, step, childOf}
 use Rattle.volume.specs.Sound.{Sound, dirOf}
 use Rattle.volume.specs.SealedOpens.{Bytewise, ShowsAs, SameKey, SameName, SealedOpens}
@@ -287,7 +287,7 @@ module _ (C : Cipher) (law : Lawful C) where
       let dir = passed _ _ k₂ in
       pass _ EPERM _ (dir .1) λ h₄ k₄.
       pass _ ENOKEY _ k₄ λ h₅ k₅.
-      pass _ EPERM _ k₅ λ h₆ k₆.
+      pass _ policyRefusal _ k₅ λ h₆ k₆.
       pass _ EEXIST _ k₆ λ h₇ k₇.
       pass _ ENOSPC _ k₇ λ h₈ k₈.
       let room = search-room isVacant (v .entries) noEntry entrySlots (s .entry-slots) h₈ in

@@ -10,13 +10,13 @@ use lib.Seq.{getD-set-same, getD-set-other}
 use lib.Dec.{eqb}
 use Rattle.lists.proofs.Tests.{eqb-true, eqb-self, eqb-other}
 use Rattle.lists.proofs.Slots.{by-eq, by-test}
-use Rattle.errno.specs.declared.Errno.the-variants.{ENOENT, ENOKEY, EPERM, EINVAL}
+use Rattle.errno.specs.declared.Errno.the-variants.{ENOENT, ENOKEY, EINVAL}
 use Rattle.errno.specs.declared.Checked.the-variants.{Fine}
 use Rattle.fscrypt.specs.Cipher.{Cipher}
 use Rattle.volume.specs.Volume.{noEntry}
 use Rattle.volume.specs.Request.{exchange}
 use Rattle.volume.specs.Lookup.{isVacant, isUnderItself}
-use Rattle.volume.specs.Checks.{exchangeCheck}
+use Rattle.volume.specs.Checks.{policyRefusal, exchangeCheck}
 use Rattle.volume.specs.Step.{withEntries, withInode, effect}
 use Rattle.volume.specs.Sound.{MayHold, slotAt, dirOf, nodeOf}
 use Rattle.volume.specs.declared.EntryNumber.{EntryNumber}
@@ -179,8 +179,8 @@ module _ (C : Cipher) (v : Volume) (ok : Inv v) where
       pass _ ENOENT _ k₁ λ h₂ k₂.
       pass _ ENOKEY _ k₂ λ h₃ k₃.
       pass _ ENOKEY _ k₃ λ h₄ k₄.
-      pass _ EPERM _ k₄ λ h₅ k₅.
-      pass _ EPERM _ k₅ λ h₆ k₆.
+      pass _ policyRefusal _ k₄ λ h₅ k₅.
+      pass _ policyRefusal _ k₅ λ h₆ k₆.
       pass _ EINVAL _ k₆ λ h₇ k₇.
       pass _ EINVAL _ k₇ λ h₈ k₈.
       exchanges v ok (a .0) (b .0) h₁ h₂ (may-hold _ _ h₅) (may-hold _ _ h₆) h₈ h₇

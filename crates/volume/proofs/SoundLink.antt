@@ -15,7 +15,7 @@ use Rattle.volume.specs.Volume.{noEntry, entrySlot}
 use Rattle.volume.specs.Request.{link}
 use Rattle.volume.specs.Lookup.{inodeAt, isVacant, freeEntry}
 use Rattle.volume.specs.DirectoryNames.{stored}
-use Rattle.volume.specs.Checks.{linkCheck}
+use Rattle.volume.specs.Checks.{policyRefusal, linkCheck}
 use Rattle.volume.specs.Step.{effect}
 use Rattle.volume.specs.Sound.{nodeAt, slotAt}
 use Rattle.volume.specs.declared.InodeNumber.{InodeNumber}
@@ -40,7 +40,7 @@ module _ (C : Cipher) (law : Lawful C) (v : Volume) (ok : Inv v) where
       let dir = passed _ _ k₂ in
       pass _ EPERM _ (dir .1) λ h₄ k₄.
       pass _ ENOKEY _ k₄ λ h₅ k₅.
-      pass _ EPERM _ k₅ λ h₆ k₆.
+      pass _ policyRefusal _ k₅ λ h₆ k₆.
       pass _ EEXIST _ k₆ λ h₇ k₇.
       let e = freeEntry v in
       let s = stored C v (inodeAt v p) n in

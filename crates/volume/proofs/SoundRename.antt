@@ -9,7 +9,7 @@ use lib.ListN.{getD, set}
 use lib.Seq.{getD-set-same, getD-set-other}
 use Rattle.lists.specs.Bytes.{Bytes}
 use Rattle.lists.proofs.Slots.{by-eq}
-use Rattle.errno.specs.declared.Errno.the-variants.{ENOENT, ENOKEY, EPERM, EINVAL, EEXIST}
+use Rattle.errno.specs.declared.Errno.the-variants.{ENOENT, ENOKEY, EINVAL, EEXIST}
 use Rattle.errno.specs.declared.Checked.the-variants.{Fine}
 use Rattle.errno.proofs.Chains.{passed}
 use Rattle.fscrypt.specs.Cipher.{Cipher, Lawful}
@@ -18,7 +18,7 @@ use Rattle.volume.specs.Volume.{noEntry, entrySlot}
 use Rattle.volume.specs.Request.{rename}
 use Rattle.volume.specs.Lookup.{inodeAt, isVacant, isTaken, isUnderItself}
 use Rattle.volume.specs.DirectoryNames.{stored}
-use Rattle.volume.specs.Checks.{isPolicyRefused, renameCheck}
+use Rattle.volume.specs.Checks.{isPolicyRefused, policyRefusal, renameCheck}
 use Rattle.volume.specs.Step.{withEntries, effect}
 use Rattle.volume.specs.Sound.{slotAt}
 use Rattle.volume.specs.declared.InodeNumber.{InodeNumber}
@@ -92,7 +92,7 @@ module _ (C : Cipher) (law : Lawful C) (v : Volume) (ok : Inv v) where
       let dir = passed _ _ k₂ in
       pass _ ENOKEY _ (dir .1) λ h₄ k₄.
       pass _ ENOKEY _ k₄ λ h₅ k₅.
-      pass _ EPERM _ k₅ λ h₆ k₆.
+      pass _ policyRefusal _ k₅ λ h₆ k₆.
       pass _ EINVAL _ k₆ λ h₇ k₇.
       pass _ EEXIST _ k₇ λ h₈ k₈.
       moves (e .0) p n h₂ (is-directory v p (dir .0)) (named .0) h₆ h₇ h₈

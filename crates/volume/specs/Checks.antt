@@ -5,6 +5,7 @@ use mathlib.Core.Bool.{Bool, not, _&&_, _||_}
 use lib.Dec.{eqb, leb, ltb}
 use Rattle.lists.specs.Bytes.{Bytes}
 use Rattle.errno.specs.Refusals.{_⇒_, _>>_}
+use Rattle.errno.specs.declared.Errno.{Errno}
 use Rattle.errno.specs.declared.Errno.the-variants.{EPERM, ENOENT, EEXIST, ENOTDIR, EINVAL, ENOSPC, ERANGE, ENOTEMPTY, ENODATA, ENOTUNIQ, EUCLEAN, ENOKEY}
 use Rattle.errno.specs.declared.Checked.{Checked}
 use Rattle.errno.specs.declared.Checked.the-variants.{Fine}
@@ -32,6 +33,10 @@ directoryCheck v p = do
 -- the policy refusal, document 00: "an encrypted folder would gain a regular file, folder or symlink that lacks that folder's policy"
 unfoldable pub isPolicyRefused : Inode → Inode → Bool
 isPolicyRefused dir node = dir .encrypted && (leb (node .kind) 3 && not (node .encrypted && samePolicy (node .context .policy) (dir .context .policy)))
+
+-- its number: "EPERM 1 | linking a folder; first policy on the root; the policy refusal" (document 01)
+abbrev pub policyRefusal : Errno
+policyRefusal = EPERM
 
 -- document 01: "Kinds: 1 folder, 2 regular file, 3 symlink, 4 special"
 unfoldable pub isBadKind : ℕ → Bool
@@ -102,8 +107,8 @@ abbrev pub swapCheck : Volume → InodeNumber → InodeNumber → InodeNumber �
 swapCheck v p i q j = do
   lacksKey v (inodeAt v p) ⇒ ENOKEY
   lacksKey v (inodeAt v q) ⇒ ENOKEY
-  isPolicyRefused (inodeAt v p) (inodeAt v j) ⇒ EPERM
-  isPolicyRefused (inodeAt v q) (inodeAt v i) ⇒ EPERM
+  isPolicyRefused (inodeAt v p) (inodeAt v j) ⇒ policyRefusal
+  isPolicyRefused (inodeAt v q) (inodeAt v i) ⇒ policyRefusal
   isUnderItself v i q ⇒ EINVAL
   isUnderItself v j p ⇒ EINVAL
   Fine
@@ -157,7 +162,7 @@ module _ (C : Cipher) where
       let dir = inodeAt v p in do
         isDirectory node ⇒ EPERM
         lacksKey v dir ⇒ ENOKEY
-        isPolicyRefused dir node ⇒ EPERM
+        isPolicyRefused dir node ⇒ policyRefusal
         isTaken v p (stored C v dir n) ⇒ EEXIST
         leb entrySlots (freeEntry v) ⇒ ENOSPC
         Fine
@@ -177,7 +182,7 @@ module _ (C : Cipher) where
         directoryCheck v p
         lacksKey v (inodeAt v from) ⇒ ENOKEY
         lacksKey v dir ⇒ ENOKEY
-        isPolicyRefused dir (inodeAt v moved) ⇒ EPERM
+        isPolicyRefused dir (inodeAt v moved) ⇒ policyRefusal
         isUnderItself v moved p ⇒ EINVAL
         isTaken v p (stored C v dir n) ⇒ EEXIST
         Fine

@@ -7,14 +7,12 @@ use mathlib.Core.Bool.{true, false}
 use mathlib.Core.List.{List, List·Memᴰ}
 use Rattle.lists.specs.Bytes.{Bytes}
 use Rattle.errno.specs.Refusals.{number}
-use Rattle.errno.specs.declared.Errno.{Errno}
-use Rattle.errno.specs.declared.Errno.the-variants.{EPERM}
 use Rattle.errno.specs.declared.Checked.the-variants.{Fine}
 use Rattle.fscrypt.specs.Cipher.{Cipher}
 use Rattle.fscrypt.specs.Names.{nameCheck}
 use Rattle.volume.specs.Request.{Request, rename, link, exchange, refused, AllTyped}
 use Rattle.volume.specs.Lookup.{lacksKey, inodeAt, isFree, isDirectory, entryAt, isVacant}
-use Rattle.volume.specs.Checks.{directoryCheck}
+use Rattle.volume.specs.Checks.{directoryCheck, policyRefusal}
 use Rattle.volume.specs.Step.{step}
 use Rattle.volume.specs.Run.{Moment, run}
 use Rattle.volume.specs.Sound.{BearsPolicy, Used, dirOf, nodeOf, Sound}
@@ -50,10 +48,6 @@ pub record ExchangeReady (v : Volume) (a b : EntryNumber) : Type 0 where
   pub other : isVacant (entryAt v b) ≡ false
   pub one-key : lacksKey v (inodeAt v (entryAt v a .parent)) ≡ false
   pub other-key : lacksKey v (inodeAt v (entryAt v b .parent)) ≡ false
-
--- "EPERM 1 | linking a folder; first policy on the root; the policy refusal"
-abbrev pub policyRefusal : Errno
-policyRefusal = EPERM
 
 -- the request gives the policy refusal
 abbrev pub GivesRefusal : Cipher → Volume → Request → Type 0

@@ -1,6 +1,9 @@
 -- `shown_name`: plain, encoded or decrypted, by the directory and its key. Assumes nothing.
-use Rattle.names.proofs.Reading.{shown-plain, shown-encoded, shown-decrypted}
-use mathlib.Core.Path.{_≡_, sym, _∙_}
+use mathlib.Core.Path.{_≡_, refl, sym, _∙_}
+use native.Mathlib.Omega.{arith}
+use lib.ListN.{length}
+use Rattle.lists.proofs.ByteStrings.{count-take}
+use Rattle.names.proofs.Reading.{names-key, shown-plain, shown-encoded, shown-decrypted}
 use borrow.Author.Tests.{not-true, not-false}
 use Rattle.fscrypt.specs.Cipher.{fscrypt}
 use borrow.Author.Needs.{needs}
@@ -25,11 +28,26 @@ returns-2 c = shown-encoded fscrypt _ _ _ _ (c .before .before .before .before .
 derived-key-requires : tie.Need-derived-key-requires
 derived-key-requires c κs = sym (c .before .before .before .key-present .ensures) ∙ not-false _ (c .before .before .if2 .left)
 
+name-key-size-requires : tie.Need-name-key-size-requires
+name-key-size-requires c κs = search needs
+
+array-share-prefix-key : tie.Need-array-share-prefix-key
+array-share-prefix-key c = search needs
+
+slice-aggregate-decrypt-name : tie.Need-slice-aggregate-decrypt-name
+slice-aggregate-decrypt-name c =
+    let n : length (c .before .before .derived-key .result) ≡ 64 = search needs in
+    count-take (c .before .name-key-size .result) (c .before .before .derived-key .result) (omega (arith, c .before .name-key-size .ensures .1))
+
 decrypt-name-requires : tie.Need-decrypt-name-requires
 decrypt-name-requires c κs = search needs
 
 returns-3 : tie.Need-returns-3
-returns-3 c = shown-decrypted fscrypt _ _ _ _ (c .before .before .before .before .before .before .before .before .name-of .result) (c .before .derived-key .result) _ (not-false _ (c .before .before .before .before .before .before .if1 .left)) (sym (c .before .before .before .before .before .key-present .ensures) ∙ not-false _ (c .before .before .before .before .if2 .left)) (c .before .before .before .before .before .before .before .before .name-of .ensures) (c .before .derived-key .ensures) (c .decrypt-name .ensures)
+returns-3 c =
+    let d = c .before .before .before .derived-key in
+    let named = c .before .before .before .before .before .before .before .before .before .before .name-of in
+    shown-decrypted fscrypt _ _ _ _ (named .result) _ _ (not-false _ (c .before .before .before .before .before .before .before .before .if1 .left)) (sym (c .before .before .before .before .before .before .before .key-present .ensures) ∙ not-false _ (c .before .before .before .before .before .before .if2 .left)) (named .ensures)
+    (names-key fscrypt _ _ (d .result) _ (c .before .before .name-key-size .result) (d .ensures) (c .before .before .name-key-size .ensures .0) refl) (c .decrypt-name .ensures)
 
 pub shown-name-spec : {M : Type 1} → statement M
 shown-name-spec =
@@ -41,5 +59,8 @@ shown-name-spec =
     encode-name-requires
     returns-2
     derived-key-requires
+    name-key-size-requires
+    array-share-prefix-key
+    slice-aggregate-decrypt-name
     decrypt-name-requires
     returns-3)

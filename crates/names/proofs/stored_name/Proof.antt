@@ -1,5 +1,9 @@
--- `stored_name`: as it stands in a plain directory, and under the derived key in an encrypted one. Assumes nothing.
-use Rattle.names.proofs.Reading.{present, stored-plain, stored-encrypted}
+-- `stored_name`: as it stands in a plain directory, and in an encrypted one under the start of its derived key. Assumes nothing.
+use mathlib.Core.Path.{_≡_, refl}
+use native.Mathlib.Omega.{arith}
+use lib.ListN.{length}
+use Rattle.lists.proofs.ByteStrings.{count-take}
+use Rattle.names.proofs.Reading.{present, names-key, stored-plain, stored-encrypted}
 use borrow.Author.Tests.{not-true, not-false}
 use Rattle.fscrypt.specs.Cipher.{fscrypt}
 use borrow.Author.Needs.{needs}
@@ -15,12 +19,35 @@ returns c = stored-plain fscrypt _ _ _ _ (not-true _ (c .before .if1 .taken)) (c
 derived-key-requires : tie.Need-derived-key-requires
 derived-key-requires c κs = present _ _ (not-false _ (c .before .before .if1 .left)) (c .before .before .before .before .before .pre .1)
 
+name-key-size-requires : tie.Need-name-key-size-requires
+name-key-size-requires c κs = search needs
+
+array-share-prefix-key : tie.Need-array-share-prefix-key
+array-share-prefix-key c = search needs
+
+slice-aggregate-encrypt-name : tie.Need-slice-aggregate-encrypt-name
+slice-aggregate-encrypt-name c =
+    let n : length (c .before .before .derived-key .result) ≡ 64 = search needs in
+    count-take (c .before .name-key-size .result) (c .before .before .derived-key .result) (omega (arith, c .before .name-key-size .ensures .1))
+
 encrypt-name-requires : tie.Need-encrypt-name-requires
 encrypt-name-requires c κs = search needs
 
 returns-2 : tie.Need-returns-2
-returns-2 c = stored-encrypted fscrypt _ _ _ (c .before .derived-key .result) _ (not-false _ (c .before .before .before .before .if1 .left)) (c .before .derived-key .ensures) (c .encrypt-name .ensures)
+returns-2 c =
+    let d = c .before .before .before .derived-key in
+    stored-encrypted fscrypt _ _ _ _ _ (not-false _ (c .before .before .before .before .before .before .if1 .left))
+    (names-key fscrypt _ _ (d .result) _ (c .before .before .name-key-size .result) (d .ensures) (c .before .before .name-key-size .ensures .0) refl) (c .encrypt-name .ensures)
 
 pub stored-name-spec : {M : Type 1} → statement M
 stored-name-spec =
-    tie.close (tie.spec pack-requires returns derived-key-requires encrypt-name-requires returns-2)
+    tie.close
+    (tie.spec
+    pack-requires
+    returns
+    derived-key-requires
+    name-key-size-requires
+    array-share-prefix-key
+    slice-aggregate-encrypt-name
+    encrypt-name-requires
+    returns-2)

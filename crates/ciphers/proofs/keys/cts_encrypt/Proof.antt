@@ -1,4 +1,4 @@
--- `keys::cts_encrypt` meets its contract: the search closes what is left. Assumes nothing.
+-- `keys::cts_encrypt` meets its contract: the part of the array that is lent is the key schedule, and the first block is zeros. Assumes nothing.
 use Prim.Native.Nat.{ℕ, _+_, _*_, _/_, _≤_}
 use native.Mathlib.Omega.{arith}
 use mathlib.Core.Path.{_≡_, refl}

@@ -12,16 +12,16 @@ cast-len : tie.Need-cast-len
 cast-len c = search needs
 
 array-borrow-prefix-bytes : tie.Need-array-borrow-prefix-bytes
-array-borrow-prefix-bytes c = let s = c .before .before in let g = name-sized (s .args .stored) (s .good .1 .0) in omega arith
+array-borrow-prefix-bytes c = let s = c .before .before .before in let g = name-sized (s .args .stored) (s .good .1 .0) in omega arith
 
 slice-aggregate-decrypt-text : tie.Need-slice-aggregate-decrypt-text
-slice-aggregate-decrypt-text c = let s = c .before .before .before in sym (cut-length (name-sized (s .args .stored) (s .good .1 .0)))
+slice-aggregate-decrypt-text c = let s = c .before .before .before .before in sym (cut-length (name-sized (s .args .stored) (s .good .1 .0)))
 
 decrypt-text-requires : tie.Need-decrypt-text-requires
 decrypt-text-requires c κs = search needs
 
 returns : tie.Need-returns
-returns c = let s = c .before .before .before .before .before in
+returns c = let s = c .before .before .before .before .before .before in
     let d = c .before .decrypt-text in
     (refl, take-at (d .last .1 .0) _ (s .args .stored .len) (d .kept .1 .0 ∙ cut-length (name-sized (s .args .stored) (s .good .1 .0))) ∙ d .ensures)
 

@@ -27,9 +27,9 @@ encrypt-text-requires : tie.Need-encrypt-text-requires
 encrypt-text-requires c κs = search needs
 
 returns : tie.Need-returns
-returns c = let s = c .before .before .before .before .before .before .before in
+returns c = let s = c .before .before .before .before .before .before .before .before in
     let x = c .before .before .before .before .before .pad in
-    encrypted-packed (take 32 (s .args .key)) (s .args .flags) (now (s .args .name)) (x .result) _ (x .ensures) (ap (λ (b : Bytes). b ++ drop (x .result .len) (x .result .bytes)) (c .before .encrypt-text .ensures))
+    encrypted-packed (now (s .args .key)) (s .args .flags) (now (s .args .name)) (x .result) _ (x .ensures) (ap (λ (b : Bytes). b ++ drop (x .result .len) (x .result .bytes)) (c .before .encrypt-text .ensures))
 
 pub encrypt-name-spec : {M : Type 1} → statement M
 encrypt-name-spec =
