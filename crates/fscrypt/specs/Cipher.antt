@@ -29,7 +29,7 @@ pub record Lawful (C : Cipher) : Type 0 where
   pub unseal-seal : (k : Bytes) (n : ℕ) (b : Bytes) → ByteList k → ByteList b → C .unseal k n (C .seal k n b) ≡ b
 
 -- At lengths that the ciphers refuse the text stays as it was; a key that is present has 64 bytes, a nonce 16, a padded name 16 to 255 and a block that passed
--- its check 4,096, so no request meets that.
+-- its check 4,096, so no request on a volume that requests made meets that.
 
 -- document 01: "The derived key is the master key encrypted in blocks of 16 by AES-128 in ECB mode, the nonce being the AES key"
 unfoldable pub derive : Bytes → Bytes → Bytes

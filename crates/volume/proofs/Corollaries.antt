@@ -16,7 +16,8 @@ use Rattle.fscrypt.proofs.Lawfulness.{fscrypt-lawful}
 use Rattle.volume.specs.Request.{Request, addKey, removeKey, setPolicy, getPolicy, create, link, rename, exchange, remove, find, show, seal, unseal, Answer, refused, done, created, at, policyIs, shown, Typed, AllTyped}
 use Rattle.volume.specs.Lookup.{inodeAt}
 use Rattle.volume.specs.Run.{Moment, run}
-use Rattle.volume.specs.TwoRuns.{SameButKeys, OneKeyEach, blankRequest, blankStart, blankKey, blankEntry, blankVolume, blankLetters, blankShown, blankName, blankBlock, blankBuffer, blank, given, NamesAsGiven, Agree, TwoRuns}
+use Rattle.volume.specs.GivenNames.{given}
+use Rattle.volume.specs.TwoRuns.{SameButKeys, OneKeyEach, blankRequest, blankStart, blankKey, blankEntry, blankVolume, blankLetters, blankShown, blankName, blankBlock, blankBuffer, blank, NamesAsGiven, Agree, TwoRuns}
 use Rattle.volume.specs.declared.EntryNumber.{EntryNumber}
 use Rattle.volume.specs.declared.ShownEntry.{ShownEntry}
 use Rattle.volume.specs.declared.Form.{Form}

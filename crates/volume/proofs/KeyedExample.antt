@@ -17,7 +17,7 @@ use Rattle.volume.specs.DirectoryNames.{derivedKey, nameKey, stored, rea
 use Rattle.volume.specs.Checks.{directoryCheck, isPolicyRefused, isBadKind, isBadKeyLength, isNonceNeeded, addKeyCheck, removeKeyCheck, setPolicyCheck, createCheck, renameCheck, showCheck}
 use Rattle.volume.specs.Step.{childOf, lent, check, effect, settle, step}
 use Rattle.volume.specs.Run.{Moment, momentOf, runFrom, run}
-use Rattle.volume.specs.TwoRuns.{naming, named, namedBy, namesFrom, given}
+use Rattle.volume.specs.GivenNames.{naming, named, namedBy, namesFrom, given}
 use Rattle.volume.specs.KeyedNames.{keyFor, keysFrom, namedUnder}
 use Rattle.volume.specs.declared.Form.the-variants.{Decrypted, Encoded}
 use Rattle.volume.proofs.Example.{moved, back, small, inode, entry, seen, nonce, descriptor, policy}

@@ -30,7 +30,7 @@ use Rattle.volume.specs.Step.{lent, check, effect, settle, step}
 use Rattle.volume.specs.Run.{Moment, momentOf, runFrom, run}
 use Rattle.volume.specs.Sound.{Sound, Used, slotAt, dirOf}
 use Rattle.volume.specs.SealedOpens.{Bytewise, ShowsAs}
-use Rattle.volume.specs.TwoRuns.{Names, later, after, namesFrom, given}
+use Rattle.volume.specs.GivenNames.{Names, later, after, namesFrom, given}
 use Rattle.volume.specs.KeyedNames.{Keys, keyFor, renewed, keysAfter, keysFrom, namedUnder, HasKey, WrongKey, ShownByKey, EveryRunKeyed}
 use Rattle.volume.specs.declared.EntryNumber.{EntryNumber}
 use Rattle.volume.specs.declared.Inode.{Inode}

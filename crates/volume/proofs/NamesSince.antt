@@ -24,7 +24,7 @@ use Rattle.volume.specs.DirectoryNames.{stored}
 use Rattle.volume.specs.Checks.{policyRefusal, setPolicyCheck, createCheck, linkCheck, renameCheck, exchangeCheck, removeCheck}
 use Rattle.volume.specs.Step.{childOf, withoutUnheld, lent, check, effect, settle, step}
 use Rattle.volume.specs.Sound.{Sound, Used, nodeAt, slotAt, dirOf}
-use Rattle.volume.specs.TwoRuns.{onlyAt, named, naming, namedBy}
+use Rattle.volume.specs.GivenNames.{onlyAt, named, naming, namedBy}
 use Rattle.volume.specs.declared.InodeNumber.{InodeNumber}
 use Rattle.volume.specs.declared.EntryNumber.{EntryNumber}
 use Rattle.volume.specs.declared.Inode.{Inode}

@@ -23,7 +23,8 @@ use Rattle.volume.specs.Lookup.{isFreeKey, inodeAt, isVacant}
 use Rattle.volume.specs.Step.{lent, settle, step}
 use Rattle.volume.specs.Run.{Moment, momentOf, runFrom, run}
 use Rattle.volume.specs.Sound.{slotAt}
-use Rattle.volume.specs.TwoRuns.{blankRequest, OneKeyEach, blankKey, blankEntry, blankVolume, blankBuffer, blank, Names, namedBy, after, namesFrom, given, NamesAsGiven, TwoRuns}
+use Rattle.volume.specs.GivenNames.{Names, namedBy, after, namesFrom, given}
+use Rattle.volume.specs.TwoRuns.{blankRequest, OneKeyEach, blankKey, blankEntry, blankVolume, blankBuffer, blank, NamesAsGiven, TwoRuns}
 use Rattle.volume.specs.declared.Key.{Key}
 use Rattle.volume.specs.declared.Inode.{Inode}
 use Rattle.volume.specs.declared.Entry.{Entry}

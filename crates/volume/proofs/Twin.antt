@@ -21,7 +21,8 @@ use Rattle.volume.specs.Request.{Request, addKey, removeKey, setPolicy, 
 use Rattle.volume.specs.Lookup.{isFreeKey, descriptorOf, isVacant}
 use Rattle.volume.specs.Step.{check, effect}
 use Rattle.volume.specs.Sound.{slotAt, Used, dirOf}
-use Rattle.volume.specs.TwoRuns.{Names, blankBuffer, after}
+use Rattle.volume.specs.GivenNames.{Names, after}
+use Rattle.volume.specs.TwoRuns.{blankBuffer}
 use Rattle.volume.specs.declared.Key.{Key}
 use Rattle.volume.specs.declared.Inode.{Inode}
 use Rattle.volume.specs.declared.Entry.{Entry}

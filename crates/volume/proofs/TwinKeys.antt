@@ -16,7 +16,8 @@ use Rattle.volume.specs.Request.{addKey, removeKey, getPolicy, find, sea
 use Rattle.volume.specs.Lookup.{keySlotOf, freeKeySlot, inodeAt}
 use Rattle.volume.specs.Checks.{isBadKeyLength, addKeyCheck, removeKeyCheck, getPolicyCheck, findCheck, blockCheck}
 use Rattle.volume.specs.Step.{withKeys, check, effect}
-use Rattle.volume.specs.TwoRuns.{Names, blankBuffer, blankBlock, namedBy, naming, named}
+use Rattle.volume.specs.GivenNames.{Names, namedBy, naming, named}
+use Rattle.volume.specs.TwoRuns.{blankBuffer, blankBlock}
 use Rattle.volume.specs.declared.InodeNumber.{InodeNumber}
 use Rattle.volume.specs.declared.Key.{Key}
 use Rattle.volume.specs.declared.Volume.{Volume}

@@ -24,7 +24,7 @@ use Rattle.volume.specs.Lookup.{isFreeKey, onKeyring, keySlotOf, freeKey
 use Rattle.volume.specs.DirectoryNames.{derivedKey, nameKey, stored, formIn}
 use Rattle.volume.specs.Checks.{directoryCheck}
 use Rattle.volume.specs.Sound.{slotAt}
-use Rattle.volume.specs.TwoRuns.{Names}
+use Rattle.volume.specs.GivenNames.{Names}
 use Rattle.volume.specs.declared.InodeNumber.{InodeNumber}
 use Rattle.volume.specs.declared.EntryNumber.{EntryNumber}
 use Rattle.volume.specs.declared.Key.{Key}

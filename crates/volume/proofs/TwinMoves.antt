@@ -14,7 +14,8 @@ use Rattle.volume.specs.Request.{exchange, remove, done, outcome}
 use Rattle.volume.specs.Lookup.{lacksKey, inodeAt, entryAt, isVacant, hasEntries, isHeld, isUnderItself}
 use Rattle.volume.specs.Checks.{isPolicyRefused, exchangeCheck, removeCheck}
 use Rattle.volume.specs.Step.{withEntries, withInode, withoutUnheld, check, effect}
-use Rattle.volume.specs.TwoRuns.{Names, blankBuffer, namedBy, naming, named}
+use Rattle.volume.specs.GivenNames.{Names, namedBy, naming, named}
+use Rattle.volume.specs.TwoRuns.{blankBuffer}
 use Rattle.volume.specs.declared.InodeNumber.{InodeNumber}
 use Rattle.volume.specs.declared.EntryNumber.{EntryNumber}
 use Rattle.volume.specs.declared.Inode.{Inode}

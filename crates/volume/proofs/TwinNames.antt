@@ -17,7 +17,8 @@ use Rattle.volume.specs.DirectoryNames.{stored}
 use Rattle.volume.specs.Checks.{isPolicyRefused, isNonceNeeded, setPolicyCheck, createCheck, linkCheck, renameCheck}
 use Rattle.volume.specs.Step.{withInodes, withEntries, childOf, check, effect}
 use Rattle.volume.specs.Sound.{slotAt, Used, dirOf}
-use Rattle.volume.specs.TwoRuns.{Names, blankBuffer, namedBy, naming, named}
+use Rattle.volume.specs.GivenNames.{Names, namedBy, naming, named}
+use Rattle.volume.specs.TwoRuns.{blankBuffer}
 use Rattle.volume.specs.declared.InodeNumber.{InodeNumber}
 use Rattle.volume.specs.declared.EntryNumber.{EntryNumber}
 use Rattle.volume.specs.declared.Inode.{Inode}

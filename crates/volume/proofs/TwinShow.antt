@@ -27,7 +27,8 @@ use Rattle.volume.specs.Lookup.{keyPresent, inodeAt, entryAt, isVacant}
 use Rattle.volume.specs.DirectoryNames.{nameKey, readName, shownName, isUnreadable, formIn}
 use Rattle.volume.specs.Checks.{showCheck}
 use Rattle.volume.specs.Step.{check, effect}
-use Rattle.volume.specs.TwoRuns.{Names, blankLetters, blankShown, blankName, blankBuffer, namedBy, naming, named}
+use Rattle.volume.specs.GivenNames.{Names, namedBy, naming, named}
+use Rattle.volume.specs.TwoRuns.{blankLetters, blankShown, blankName, blankBuffer}
 use Rattle.volume.specs.declared.EntryNumber.{EntryNumber}
 use Rattle.volume.specs.declared.Inode.{Inode}
 use Rattle.volume.specs.declared.Entry.{Entry}

@@ -21,7 +21,7 @@ use Rattle.volume.specs.Lookup.{lacksKey, inodeAt, isVacant, isIn, first
 use Rattle.volume.specs.DirectoryNames.{stored}
 use Rattle.volume.specs.Step.{withInodes}
 use Rattle.volume.specs.Sound.{slotAt, Used, dirOf}
-use Rattle.volume.specs.TwoRuns.{Names, onlyAt, later}
+use Rattle.volume.specs.GivenNames.{Names, onlyAt, later}
 use Rattle.volume.specs.declared.InodeNumber.{InodeNumber}
 use Rattle.volume.specs.declared.EntryNumber.{EntryNumber}
 use Rattle.volume.specs.declared.Inode.{Inode}

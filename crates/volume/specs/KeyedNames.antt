@@ -15,7 +15,7 @@ use Rattle.volume.specs.Request.{Request, show, refused, shown, AllTyped
 use Rattle.volume.specs.Lookup.{masterKey, descriptorOf, keyPresent}
 use Rattle.volume.specs.Run.{Moment, run}
 use Rattle.volume.specs.Sound.{Used, dirOf}
-use Rattle.volume.specs.TwoRuns.{Names, namedBy, given}
+use Rattle.volume.specs.GivenNames.{Names, namedBy, given}
 use Rattle.volume.specs.declared.EntryNumber.{EntryNumber}
 use Rattle.volume.specs.declared.Volume.{Volume}
 use Rattle.volume.specs.declared.ShownEntry.{ShownEntry}

@@ -1,4 +1,4 @@
--- What a request leaves as it was: a refused one everything, show all but the name's bytes, and one that only asks the volume as well. Assumes nothing.
+-- What a request leaves as it was: a refused one everything; show the buffer past the name; get policy, find, show, seal and open the volume. Assumes nothing.
 -- Sentences in quotation marks are those of documents 00 and 01, in their words.
 use Prim.Native.Nat.{ℕ}
 use mathlib.Core.Path.{_≡_}
@@ -30,8 +30,8 @@ pub record Leaves (C : Cipher) : Type 0 where
   -- "Show writes the name's bytes at the buffer's start and no others."
   pub past-the-name : (v : Volume) (e : EntryNumber) (b : Bytes) (s : ShownEntry) → (step C v (show e b)) .answer ≡ shown s
       → drop (s .len) ((step C v (show e b)) .buffer) ≡ drop (s .len) b
-  -- "seal and open also change the lent block, and nothing else"; get policy, find and show only ask
-  pub asking : (v : Volume) (i : InodeNumber) → (step C v (getPolicy i)) .volume ≡ v
+  -- "seal and open also change the lent block, and nothing else"; get policy, find and show only answer
+  pub getting : (v : Volume) (i : InodeNumber) → (step C v (getPolicy i)) .volume ≡ v
   pub finding : (v : Volume) (p : InodeNumber) (n : Bytes) → (step C v (find p n)) .volume ≡ v
   pub showing : (v : Volume) (e : EntryNumber) (b : Bytes) → (step C v (show e b)) .volume ≡ v
   pub sealing : (v : Volume) (i : InodeNumber) (k : ℕ) (b : Bytes) → (step C v (seal i k b)) .volume ≡ v

@@ -11,6 +11,7 @@ pub mod Sound
 pub mod PolicyClause
 pub mod SealedOpens
 pub mod ShownApart
+pub mod GivenNames
 pub mod TwoRuns
 pub mod KeyedNames
 pub mod Cases

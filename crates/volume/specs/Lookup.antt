@@ -57,7 +57,7 @@ lacksKey v i = i .encrypted && not (keyPresent v i)
 abbrev pub inodeAt : Volume → InodeNumber → Inode
 inodeAt v n = getD (v .inodes) (n .0) noInode
 
--- no inode (document 01: thing) has this number
+-- a free record: no inode (document 01: thing) stands there
 abbrev pub isFree : Inode → Bool
 isFree i = eqb (i .kind) 0
 
@@ -83,7 +83,7 @@ isBorne v x = ltb (nonceHolder v x) inodeSlots
 abbrev pub entryAt : Volume → EntryNumber → Entry
 entryAt v n = getD (v .entries) (n .0) noEntry
 
--- no entry (document 01: place) has this number
+-- a free record: no entry (document 01: place) stands there
 abbrev pub isVacant : Entry → Bool
 isVacant e = eqb (e .len) 0
 
@@ -126,7 +126,7 @@ isHeld es i = ltb (firstLink es i) entrySlots
 
 -- ---- the climb: "climbs from the new parent and stops at whichever it meets first, the moved folder or the root"
 
--- the directory that an inode stands in
+-- the directory that an inode stands in, by its first entry; the root where it has none
 unfoldable pub parentOf : Volume → InodeNumber → InodeNumber
 parentOf v i = getD (v .entries) (firstLink (v .entries) i) noEntry .parent
 

@@ -21,7 +21,7 @@ use Rattle.volume.specs.declared.EntryNumber.{EntryNumber}
 use Rattle.volume.specs.declared.Inode.{Inode}
 use Rattle.volume.specs.declared.Volume.{Volume}
 
--- an encrypted directory, and a regular file, directory or symlink that lacks its policy
+-- an encrypted directory, and a regular file, directory or symlink that lacks its policy; kind 0 is a free record, which no entry of a sound volume holds
 pub record WouldLack (dir node : Inode) : Type 0 where
   pub is-encrypted : dir .encrypted ≡ true
   pub not-special : node .kind ≤ 3

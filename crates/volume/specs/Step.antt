@@ -80,6 +80,7 @@ module _ (C : Cipher) where
   unfoldable pub effect : Volume → Request → Outcome
   effect v (addKey d k) = outcome done k (withKeys v (set (v .keys) (freeKeySlot v) (keySlot d k)))
   effect v (removeKey d) = outcome done [] (withKeys v (set (v .keys) (keySlotOf v d) noKey))
+  -- a first policy is set on a directory, as was checked
   effect v (setPolicy i p x) =
       outcome done [] (cond (inodeAt v i .encrypted) v (withInodes v (set (v .inodes) (i .0) (encryptedInode 1 ((readPolicy p) .policy) x))))
   effect v (getPolicy i) = outcome (policyIs (policyBytes (inodeAt v i .context .policy))) [] v

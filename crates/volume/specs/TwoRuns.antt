@@ -5,9 +5,9 @@ use mathlib.Core.Path.{_≡_}
 use mathlib.Core.Logic.{_≢_}
 use mathlib.Core.Bool.{cond}
 use mathlib.Core.List.{List, [], _∷_, _++_, map, List·Memᴰ}
-use mathlib.Core.Option.{Option, some, none}
+use mathlib.Core.Option.{some}
 use lib.ListN.{length, take, drop}
-use lib.Dec.{eqb, leb}
+use lib.Dec.{leb}
 use Rattle.lists.specs.Bytes.{Bytes, zeros}
 use Rattle.errno.specs.Refusals.{number}
 use Rattle.errno.specs.declared.Errno.the-variants.{EUCLEAN}
@@ -15,6 +15,7 @@ use Rattle.fscrypt.specs.Cipher.{Cipher}
 use Rattle.volume.specs.Request.{Request, AllTyped, addKey, removeKey, setPolicy, getPolicy, create, link, rename, exchange, remove, find, show, seal, unseal, Answer, refused, done, created, at, policyIs, shown}
 use Rattle.volume.specs.Lookup.{inodeAt}
 use Rattle.volume.specs.Run.{Moment, run}
+use Rattle.volume.specs.GivenNames.{given}
 use Rattle.volume.specs.declared.EntryNumber.{EntryNumber}
 use Rattle.volume.specs.declared.Key.{Key}
 use Rattle.volume.specs.declared.Entry.{Entry}
@@ -125,66 +126,7 @@ blank m =
       volume = blankVolume (m .volume);
     }
 
--- ---- given names: "these are read from either list and the answers of its run"
-
-abbrev pub Names : Type 0
-Names = ℕ → Option Bytes
-
--- what a request names once it is done: nothing, the entry that it answers, or an entry of its own
-pub data Naming : Type 0 where
-  nothing : Naming
-  answered : (name : Bytes) → Naming
-  entry : (at : EntryNumber) (name : Bytes) → Naming
-
--- "the one in the latest create or link that answered this place or, if later, in the latest rename of it that was done. Exchange doesn't change it."
-unfoldable pub naming : Request → Naming
-naming (addKey d k) = nothing
-naming (removeKey d) = nothing
-naming (setPolicy i p x) = nothing
-naming (getPolicy i) = nothing
-naming (create p kind n x) = answered n
-naming (link i p n) = answered n
-naming (rename e p n) = entry e n
-naming (exchange a b) = nothing
-naming (remove e) = nothing
-naming (find p n) = nothing
-naming (show e b) = nothing
-naming (seal i n b) = nothing
-naming (unseal i n b) = nothing
-
-abbrev pub onlyAt : EntryNumber → Bytes → Names
-onlyAt e′ n e = cond (eqb e (e′ .0)) (some n) none
-
-unfoldable pub named : Naming → Option EntryNumber → Names
-named nothing o e = none
-named (answered n) none e = none
-named (answered n) (some e′) e = onlyAt e′ n e
-named (entry e′ n) o e = onlyAt e′ n e
-
--- the name that a request with this answer gives the entry e, if it gives it one
-unfoldable pub namedBy : Request → Answer → Names
-namedBy r (refused number) e = none
-namedBy r done e = named (naming r) none e
-namedBy r (created i e′) e = named (naming r) (some e′) e
-namedBy r (at e′) e = named (naming r) (some e′) e
-namedBy r (policyIs p) e = named (naming r) none e
-namedBy r (shown s) e = named (naming r) none e
-
-abbrev pub later : Option Bytes → Option Bytes → Option Bytes
-later (some n) earlier = some n
-later none earlier = earlier
-
--- the given names after one more request
-abbrev pub after : Names → Request → Answer → Names
-after g r a e = later (namedBy r a e) (g e)
-
-unfoldable pub namesFrom : Names → List Moment → Names
-namesFrom g [] = g
-namesFrom g (m ∷ ms) = namesFrom (after g (m .request) (m .answer)) ms
-
--- the names that the requests so far, oldest first, gave
-abbrev pub given : List Moment → Names
-given past = namesFrom (λ e. none) past
+-- ---- given names
 
 -- "Whenever show answers with the form plain or read with the key, the name is the given one. In these runs show never says EUCLEAN."
 pub record NamesAsGiven (ms : List Moment) : Type 0 where
