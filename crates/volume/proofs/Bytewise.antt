@@ -23,6 +23,7 @@ use Rattle.volume.specs.SealedOpens.{Bytewise}
 use Rattle.volume.specs.declared.Key.{Key}
 use Rattle.volume.specs.declared.Inode.{Inode}
 use Rattle.volume.specs.declared.Volume.{Volume}
+use Rattle.volume.proofs.Kept.{volume-has, kept-always}
 
 -- ---- one store
 
@@ -50,11 +51,6 @@ fresh-bytes = record {
     node : (i : ℕ) → NonceBytes (nodeAt fresh i)
     node zero = zeros-bytes 16
     node (suc i) = subst NonceBytes (sym (all-same (inodeSlots - 1) i noInode)) (zeros-bytes 16)
-
-settle-bytes : (v : Volume) (b : Bytes) (o : Outcome) → Bytewise v → (k : Checked) → Bytewise (o .volume) → Bytewise ((settle v b k o) .volume)
-unfolding settle
-settle-bytes v b o w Fine f = f
-settle-bytes v b o w (Refused e) f = w
 
 module _ (C : Cipher) where
   effect-bytes : (v : Volume) → Bytewise v → (r : Request) → Typed r → Bytewise ((effect C v r) .volume)
@@ -84,20 +80,7 @@ module _ (C : Cipher) where
   effect-bytes v w (unseal i n b) t = w
 
   pub bytewise-kept : (v : Volume) → Bytewise v → (r : Request) → Typed r → Bytewise ((step C v r) .volume)
-  unfolding step
-  bytewise-kept v w r t = settle-bytes v (lent r) (effect C v r) w (check C v r) (effect-bytes v w r t)
-
-  bytewise-from : (rs : List Request) (v : Volume) → Bytewise v → AllTyped rs → (m : Moment) → List·Memᴰ m (runFrom C v rs) → Bytewise (m .volume)
-  unfolding runFrom momentOf
-  bytewise-from [] v w t m h = absurd (List·Memᴰ·not-nil h)
-  bytewise-from (r ∷ rs) v w t m h =
-      let w′ = bytewise-kept v w r (t r (List·Memᴰ·head refl)) in
-      go (List·Memᴰ·cases-cons h) w′ (bytewise-from rs ((step C v r) .volume) w′ (λ q p. t q (List·Memᴰ·tail p)) m)
-    where
-      go : (m ≡ momentOf r (step C v r)) ⊎ List·Memᴰ m (runFrom C ((step C v r) .volume) rs) → Bytewise ((step C v r) .volume)
-          → (List·Memᴰ m (runFrom C ((step C v r) .volume) rs) → Bytewise (m .volume)) → Bytewise (m .volume)
-      go (inl e) w ih = subst Bytewise (ap (λ (x : Moment). x .volume) (sym e)) w
-      go (inr p) w ih = ih p
+  bytewise-kept v w r t = volume-has C v r Bytewise w (λ h. effect-bytes v w r t)
 
   pub bytewise : (rs : List Request) → AllTyped rs → (m : Moment) → List·Memᴰ m (run C rs) → Bytewise (m .volume)
-  bytewise rs t m h = bytewise-from rs fresh fresh-bytes t m h
+  bytewise = kept-always C Bytewise fresh-bytes bytewise-kept

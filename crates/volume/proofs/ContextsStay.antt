@@ -24,17 +24,13 @@ use Rattle.volume.specs.SealedOpens.{Stays}
 use Rattle.volume.specs.declared.InodeNumber.{InodeNumber}
 use Rattle.volume.specs.declared.Inode.{Inode}
 use Rattle.volume.specs.declared.Volume.{Volume}
+use Rattle.volume.proofs.Kept.{volume-has, kept-while}
 use Rattle.volume.proofs.SoundCreate.{free-kept}
 use Rattle.volume.proofs.Soundness.{sound-kept}
 
 -- the inode is as it was, if it is still there
 abbrev Kept : Volume → Volume → InodeNumber → Type 0
 Kept v w i = isFree (inodeAt w i) ≡ false → inodeAt w i ≡ inodeAt v i
-
-settle-kept : (v : Volume) (b : Bytes) (o : Outcome) (i : InodeNumber) → Kept v (o .volume) i → (k : Checked) → Kept v ((settle v b k o) .volume) i
-unfolding settle
-settle-kept v b o i h Fine = h
-settle-kept v b o i h (Refused e) = λ f. refl
 
 module _ (C : Cipher) (v : Volume) (s : Sound v) (i : InodeNumber) (t : (inodeAt v i) .encrypted ≡ true) where
   is-there : (inodeAt v i) .kind ≢ 0
@@ -76,24 +72,11 @@ module _ (C : Cipher) (v : Volume) (s : Sound v) (i : InodeNumber) (t : (inodeAt
   effect-kept (unseal j k b) = λ u. refl
 
   step-kept : (r : Request) → Kept v ((step C v r) .volume) i
-  unfolding step
-  step-kept r = settle-kept v (lent r) (effect C v r) i (effect-kept r) (check C v r)
+  step-kept r = volume-has C v r (λ (w : Volume). Kept v w i) (λ u. refl) (λ h. effect-kept r)
 
 module _ (C : Cipher) (law : Lawful C) (i : InodeNumber) where
   pub context-stays : (rs : List Request) (v : Volume) → Sound v → AllTyped rs → (inodeAt v i) .encrypted ≡ true → Stays C v rs i
       → (m : Moment) → List·Memᴰ m (runFrom C v rs) → inodeAt (m .volume) i ≡ inodeAt v i
-  unfolding runFrom momentOf
-  context-stays [] v s t e h m p = absurd (List·Memᴰ·not-nil p)
-  context-stays (r ∷ rs) v s t e h m p =
-      let w = (step C v r) .volume in
-      let q : inodeAt w i ≡ inodeAt v i = step-kept C v s i e r (h (momentOf r (step C v r)) (List·Memᴰ·head refl)) in
-      go (List·Memᴰ·cases-cons p) q
-      (λ p′.
-      context-stays rs w (sound-kept C law v s r (t r (List·Memᴰ·head refl))) (λ r′ z. t r′ (List·Memᴰ·tail z)) (ap (λ (n : Inode). n .encrypted) q ∙ e)
-      (λ m′ z. h m′ (List·Memᴰ·tail z)) m p′
-      ∙ q)
-    where
-      go : (m ≡ momentOf r (step C v r)) ⊎ List·Memᴰ m (runFrom C ((step C v r) .volume) rs) → inodeAt ((step C v r) .volume) i ≡ inodeAt v i
-          → (List·Memᴰ m (runFrom C ((step C v r) .volume) rs) → inodeAt (m .volume) i ≡ inodeAt v i) → inodeAt (m .volume) i ≡ inodeAt v i
-      go (inl x) q ih = ap (λ (y : Moment). inodeAt (y .volume) i) x ∙ q
-      go (inr p′) q ih = ih p′
+  context-stays rs v s t e h m p =
+      kept-while C (λ (w : Volume). Sound w × (inodeAt w i ≡ inodeAt v i)) (λ (w : Volume). isFree (inodeAt w i) ≡ false)
+      (λ w k r tr u. (sound-kept C law w (k .0) r tr, step-kept C w (k .0) i (ap (λ (n : Inode). n .encrypted) (k .1) ∙ e) r u ∙ k .1)) rs v (s, refl) t h m p .1

@@ -39,7 +39,8 @@ use Rattle.volume.specs.declared.ShownEntry.{ShownEntry}
 use Rattle.volume.proofs.SoundInvariant.{pass}
 use Rattle.volume.proofs.Soundness.{fresh-sound, fresh-unused, sound-kept}
 use Rattle.volume.proofs.Bytewise.{fresh-bytes, bytewise-kept}
-use Rattle.volume.proofs.SealedOpens.{was-fine, not-refused, shown-one, readable, shows}
+use Rattle.volume.proofs.Kept.{was-fine}
+use Rattle.volume.proofs.SealedOpens.{not-refused, shown-one, readable, shows}
 use Rattle.volume.proofs.NamesSince.{Since, stayed, gained, step-since}
 
 module _ (C : Cipher) where

@@ -21,28 +21,8 @@ use Rattle.volume.specs.Leaves.{Refuses, Leaves}
 use Rattle.volume.specs.declared.EntryNumber.{EntryNumber}
 use Rattle.volume.specs.declared.ShownEntry.{ShownEntry}
 use Rattle.volume.specs.declared.Volume.{Volume}
-use Rattle.volume.proofs.SealedOpens.{was-done, not-refused, shown-one}
-
-number-of : {m n : ℕ} → refused m ≡ refused n → m ≡ n
-number-of q = cc
-
--- an effect that is itself no refusal is refused by its check alone
-module _ (v : Volume) (b : Bytes) (o : Outcome) (n : ℕ) where
-  settle-numbered : ((m : ℕ) → o .answer ≡ refused m → ⊥) → (k : Checked) → (settle v b k o) .answer ≡ refused n → (e : Errno) × (n ≡ number e)
-  unfolding settle
-  settle-numbered never Fine h = absurd (never n h)
-  settle-numbered never (Refused e) h = (e, sym (number-of h))
-
-  settle-refused : ((m : ℕ) → o .answer ≡ refused m → ⊥) → (k : Checked) → (settle v b k o) .answer ≡ refused n → settle v b k o ≡ outcome (refused n) b v
-  unfolding settle
-  settle-refused never Fine h = absurd (never n h)
-  settle-refused never (Refused e) h = ap (λ (m : ℕ). outcome (refused m) b v) (number-of h)
-
-  -- the volume stays where the effect keeps it
-  settle-volume : o .volume ≡ v → (k : Checked) → (settle v b k o) .volume ≡ v
-  unfolding settle
-  settle-volume e Fine = e
-  settle-volume e (Refused f) = refl
+use Rattle.volume.proofs.Kept.{step-has, volume-has, was-done}
+use Rattle.volume.proofs.SealedOpens.{not-refused, shown-one}
 
 abbrev isRefusal : Answer → Bool
 isRefusal (refused n) = true
@@ -73,17 +53,16 @@ module _ (C : Cipher) (v : Volume) where
   effect-answers : (r : Request) (m : ℕ) → (effect C v r) .answer ≡ refused m → ⊥
   effect-answers r m h = true≢false (sym (ap isRefusal h) ∙ effect-is r)
 
+  -- a refusal comes of the check alone, and settles to what was there
   numbered : (r : Request) (n : ℕ) → Refuses C v r n → (e : Errno) × (n ≡ number e)
-  unfolding step
-  numbered r n h = settle-numbered v (lent r) (effect C v r) n (effect-answers r) (check C v r) h
+  numbered r n = step-has C v r (λ (o : Outcome). o .answer ≡ refused n → (e : Errno) × (n ≡ number e)) (λ e h. (e, cc)) (λ k h. absurd (effect-answers r n h))
 
   refused-all : (r : Request) (n : ℕ) → Refuses C v r n → step C v r ≡ outcome (refused n) (lent r) v
-  unfolding step
-  refused-all r n h = settle-refused v (lent r) (effect C v r) n (effect-answers r) (check C v r) h
+  refused-all r n =
+      step-has C v r (λ (o : Outcome). o .answer ≡ refused n → o ≡ outcome (refused n) (lent r) v) (λ e h. cc) (λ k h. absurd (effect-answers r n h))
 
   keeps : (r : Request) → (effect C v r) .volume ≡ v → (step C v r) .volume ≡ v
-  unfolding step
-  keeps r e = settle-volume v (lent r) (effect C v r) 0 e (check C v r)
+  keeps r e = volume-has C v r (λ (w : Volume). w ≡ v) refl (λ k. e)
 
   -- a buffer with a name laid over its start, past the name
   past-the-name : (e : EntryNumber) (b : Bytes) (s : ShownEntry) → (step C v (show e b)) .answer ≡ shown s

@@ -2,6 +2,8 @@
 mod Starred
 mod Example
 mod Occasions
+-- one request, and lists of requests
+mod Kept
 -- every reachable volume is sound
 mod SoundPolicy
 mod SoundCore

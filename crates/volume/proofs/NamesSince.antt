@@ -30,6 +30,7 @@ use Rattle.volume.specs.declared.EntryNumber.{EntryNumber}
 use Rattle.volume.specs.declared.Inode.{Inode}
 use Rattle.volume.specs.declared.Entry.{Entry}
 use Rattle.volume.specs.declared.Volume.{Volume}
+use Rattle.volume.proofs.Kept.{step-has}
 use Rattle.volume.proofs.SoundCore.{nodeIn, slot-name}
 use Rattle.volume.proofs.SoundClimb.{num}
 use Rattle.volume.proofs.SoundInvariant.{pass, is-directory, one≢zero, used-range}
@@ -185,14 +186,9 @@ module _ (C : Cipher) (law : Lawful C) (v : Volume) (s : Sound v) where
 
 -- ---- a refusal leaves all as it was
 
-settled-since : (C : Cipher) (v : Volume) (r : Request) (o : Outcome) (k : Checked)
-    → (k ≡ Fine → (j : ℕ) → Used (o .volume) j → Since C v (o .volume) (namedBy r (o .answer) j) j)
-    → (j : ℕ) → Used ((settle v (lent r) k o) .volume) j → Since C v ((settle v (lent r) k o) .volume) (namedBy r ((settle v (lent r) k o) .answer) j) j
-unfolding settle namedBy
-settled-since C v r o Fine f = f refl
-settled-since C v r o (Refused e) f = λ j u. stayed refl u refl refl
-
 pub step-since : (C : Cipher) → Lawful C → (v : Volume) → Sound v → (r : Request) → Typed r
     → (j : ℕ) → Used ((step C v r) .volume) j → Since C v ((step C v r) .volume) (namedBy r ((step C v r) .answer) j) j
-unfolding step
-step-since C law v s r t = settled-since C v r (effect C v r) (check C v r) (since C law v s r t)
+unfolding namedBy
+step-since C law v s r t =
+    step-has C v r (λ (o : Outcome). (j : ℕ) → Used (o .volume) j → Since C v (o .volume) (namedBy r (o .answer) j) j) (λ e j u. stayed refl u refl refl)
+    (since C law v s r t)

@@ -42,36 +42,13 @@ use Rattle.volume.specs.declared.Volume.{Volume}
 use Rattle.volume.specs.declared.ShownEntry.{ShownEntry}
 use Rattle.volume.specs.declared.Form.{Form}
 use Rattle.volume.specs.declared.Form.the-variants.{Plain, Decrypted, Encoded}
+use Rattle.volume.proofs.Kept.{done-by, was-fine, was-done}
 use Rattle.volume.proofs.SoundCore.{slot-name}
 use Rattle.volume.proofs.SoundClimb.{num}
 use Rattle.volume.proofs.SoundInvariant.{pass, is-directory, one≢zero, used-range, name-ok}
 use Rattle.volume.proofs.SoundCreate.{free-kept}
 use Rattle.volume.proofs.ContextsStay.{context-stays}
 use Rattle.volume.proofs.Bytewise.{bytewise-kept}
-
--- ---- a request that was not refused passed its checks
-
-passed-all : (v : Volume) (b : Bytes) (o : Outcome) (k : Checked) (a : Answer) → ((m : ℕ) → refused m ≢ a) → (settle v b k o) .answer ≡ a → k ≡ Fine
-unfolding settle
-passed-all v b o Fine a na h = refl
-passed-all v b o (Refused e) a na h = absurd (na _ h)
-
-settled : (v : Volume) (b : Bytes) (o : Outcome) (k : Checked) → k ≡ Fine → settle v b k o ≡ o
-unfolding settle
-settled v b o k h = ap (λ (c : Checked). settle v b c o) h
-
-module _ (C : Cipher) (v : Volume) (r : Request) (a : Answer) (na : (m : ℕ) → refused m ≢ a) (h : (step C v r) .answer ≡ a) where
-  pub was-fine : check C v r ≡ Fine
-  unfolding step
-  was-fine = passed-all v (lent r) (effect C v r) (check C v r) a na h
-
-  pub was-done : step C v r ≡ effect C v r
-  unfolding step
-  was-done = settled v (lent r) (effect C v r) (check C v r) was-fine
-
-done-by : (C : Cipher) (v : Volume) (r : Request) → check C v r ≡ Fine → step C v r ≡ effect C v r
-unfolding step
-done-by C v r h = settled v (lent r) (effect C v r) (check C v r) h
 
 -- what a show answers is no refusal, and speaks of one entry
 pub not-refused : (s : ShownEntry) (m : ℕ) → refused m ≢ shown s
@@ -131,15 +108,16 @@ module _ (C : Cipher) (law : Lawful C) where
 
   later-opens : (v w : Volume) → Bytewise v → (i : InodeNumber) (n : ℕ) (b : Bytes) → ByteList b → inodeAt w i ≡ inodeAt v i → SameKey v w (inodeAt v i)
       → (step C v (seal i n b)) .answer ≡ done → step C w (unseal i n ((step C v (seal i n b)) .buffer)) ≡ outcome done b w
-  unfolding step lent check effect
+  unfolding check effect
   later-opens v w bytes i n b hb q k h =
-      let fine : blockCheck v i (length b) ≡ Fine = was-fine C v (seal i n b) done (λ m q. let z : _≡_ {A = ℕ} 0 1 = cc in absurd (omega arith)) h in
+      let na : (m : ℕ) → refused m ≢ done = λ m q. let z : _≡_ {A = ℕ} 0 1 = cc in absurd (omega arith) in
+      let fine : blockCheck v i (length b) ≡ Fine = was-fine C v (seal i n b) done na h in
       let key = derivedKey C v (inodeAt v i) in
       let sealed = C .seal key n b in
       let again : blockCheck w i (length sealed) ≡ Fine = block-same v w i (length sealed) q k ∙ ap (blockCheck v i) (law .length-seal key n b) ∙ fine in
       let same-key : derivedKey C w (inodeAt w i) ≡ key = ap (derivedKey C w) q ∙ derived-same C v w (inodeAt v i) k in
-      ap (λ (o : Outcome). step C w (unseal i n (o .buffer))) (settled v b (outcome done sealed v) (blockCheck v i (length b)) fine)
-      ∙ settled w sealed (outcome done (C .unseal (derivedKey C w (inodeAt w i)) n sealed) w) (blockCheck w i (length sealed)) again
+      ap (λ (o : Outcome). step C w (unseal i n (o .buffer))) (was-done C v (seal i n b) done na h)
+      ∙ done-by C w (unseal i n sealed) again
       ∙ ap (λ (x : Bytes). outcome done (C .unseal x n sealed) w) same-key
       ∙ ap (λ (x : Bytes). outcome done x w) (law .unseal-seal key n b (derived-bytes v bytes (inodeAt v i) (bytes .nonces (i .0))) hb)
 

@@ -42,7 +42,8 @@ use Rattle.volume.specs.declared.Form.the-variants.{Plain, Decrypted, En
 use Rattle.volume.proofs.SoundInvariant.{pass, used-range}
 use Rattle.volume.proofs.Soundness.{sound}
 use Rattle.volume.proofs.Bytewise.{fresh-bytes, bytewise-kept}
-use Rattle.volume.proofs.SealedOpens.{was-fine, was-done, not-refused, shown-one, derived-bytes}
+use Rattle.volume.proofs.Kept.{was-fine, was-done}
+use Rattle.volume.proofs.SealedOpens.{not-refused, shown-one, derived-bytes}
 
 -- ---- what show answers without the key
 

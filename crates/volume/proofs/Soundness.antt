@@ -25,6 +25,7 @@ use Rattle.volume.specs.declared.Inode.{Inode}
 use Rattle.volume.specs.declared.Entry.{Entry}
 use Rattle.volume.specs.declared.Volume.{Volume}
 use Rattle.volume.specs.declared.Met.the-variants.{Root, Neither}
+use Rattle.volume.proofs.Kept.{volume-has, kept-always}
 use Rattle.volume.proofs.SoundCore.{Core, KeyOk, no-key-ok, InodeOk, plain-ok, no-inode-ok}
 use Rattle.volume.proofs.SoundClimb.{num, Any, Up, isRoot, hasEnded, in-range, up-short, climb-root, climb-ends, climb-up}
 use Rattle.volume.proofs.SoundInvariant.{Inv, one≢zero, not-eqb}
@@ -211,11 +212,6 @@ fresh-sound = inv-sound fresh fresh-inv
 
 -- ---- requests and runs
 
-settle-keeps : (v : Volume) (b : Bytes) (o : Outcome) → Inv v → (k : Checked) → (k ≡ Fine → Inv (o .volume)) → Inv ((settle v b k o) .volume)
-unfolding settle
-settle-keeps v b o ok Fine f = f refl
-settle-keeps v b o ok (Refused e) f = ok
-
 module _ (C : Cipher) (law : Lawful C) where
   effect-keeps : (v : Volume) → Inv v → (r : Request) → Typed r → check C v r ≡ Fine → Inv ((effect C v r) .volume)
   unfolding check effect
@@ -233,29 +229,13 @@ module _ (C : Cipher) (law : Lawful C) where
   effect-keeps v ok (seal i n b) t h = ok
   effect-keeps v ok (unseal i n b) t h = ok
 
-  step-keeps : (v : Volume) → Inv v → (r : Request) → Typed r → Inv ((step C v r) .volume)
-  unfolding step
-  step-keeps v ok r t = settle-keeps v (lent r) (effect C v r) ok (check C v r) (effect-keeps v ok r t)
-
   -- any request keeps any sound volume sound
   pub sound-kept : (v : Volume) → Sound v → (r : Request) → Typed r → Sound ((step C v r) .volume)
-  sound-kept v s r t = inv-sound ((step C v r) .volume) (step-keeps v (sound-inv v s) r t)
-
-  sound-from : (rs : List Request) (v : Volume) → Sound v → AllTyped rs → (m : Moment) → List·Memᴰ m (runFrom C v rs) → Sound (m .volume)
-  unfolding runFrom momentOf
-  sound-from [] v s t m h = absurd (List·Memᴰ·not-nil h)
-  sound-from (r ∷ rs) v s t m h =
-      let w = sound-kept v s r (t r (List·Memᴰ·head refl)) in
-      go (List·Memᴰ·cases-cons h) w (sound-from rs ((step C v r) .volume) w (λ q p. t q (List·Memᴰ·tail p)) m)
-    where
-      go : (m ≡ momentOf r (step C v r)) ⊎ List·Memᴰ m (runFrom C ((step C v r) .volume) rs) → Sound ((step C v r) .volume)
-          → (List·Memᴰ m (runFrom C ((step C v r) .volume) rs) → Sound (m .volume)) → Sound (m .volume)
-      go (inl e) w ih = subst Sound (ap (λ (x : Moment). x .volume) (sym e)) w
-      go (inr p) w ih = ih p
+  sound-kept v s r t = volume-has C v r Sound s (λ h. inv-sound ((effect C v r) .volume) (effect-keeps v (sound-inv v s) r t h))
 
   -- every volume of every run that starts fresh is sound
   pub sound : (rs : List Request) → AllTyped rs → (m : Moment) → List·Memᴰ m (run C rs) → Sound (m .volume)
-  sound rs t m h = sound-from rs fresh fresh-sound t m h
+  sound = kept-always C Sound fresh-sound sound-kept
 
   -- demand 2: "at no time does one stand there"
   pub at-no-time : (rs : List Request) → AllTyped rs → (m : Moment) → List·Memᴰ m (run C rs) → (e : ℕ) → Used (m .volume) e
