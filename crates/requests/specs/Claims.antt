@@ -5,7 +5,7 @@ use Rattle.volume.specs.Volume.{fresh}
 use Rattle.volume.specs.Request.{Request, AllTyped}
 use Rattle.volume.specs.Run.{Moment, run}
 use Rattle.volume.specs.Sound.{Sound}
-use Rattle.volume.specs.SealedOpens.{Bytewise}
+use Rattle.volume.specs.Bytewise.{Bytewise}
 use Rattle.volume.specs.ShownApart.{KeepsPromise}
 
 -- a fresh volume is sound and its bytes are bytes, and so is the volume after every request of every list

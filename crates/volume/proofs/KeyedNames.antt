@@ -29,7 +29,8 @@ use Rattle.volume.specs.Checks.{showCheck}
 use Rattle.volume.specs.Step.{lent, check, effect, settle, step}
 use Rattle.volume.specs.Run.{Moment, momentOf, runFrom, run}
 use Rattle.volume.specs.Sound.{Sound, Used, slotAt, dirOf}
-use Rattle.volume.specs.SealedOpens.{Bytewise, ShowsAs}
+use Rattle.volume.specs.Bytewise.{Bytewise}
+use Rattle.volume.specs.SealedOpens.{ShowsAs}
 use Rattle.volume.specs.GivenNames.{Names, later, after, namesFrom, given}
 use Rattle.volume.specs.KeyedNames.{Keys, keyFor, renewed, keysAfter, keysFrom, namedUnder, HasKey, WrongKey, ShownByKey, EveryRunKeyed}
 use Rattle.volume.specs.declared.EntryNumber.{EntryNumber}
@@ -214,7 +215,7 @@ module _ (C : Cipher) where
     run-right (r ∷ rs) t g k v s w all =
         let tr = t r (List·Memᴰ·head refl) in (
           moment-right g k v s w all r,
-          run-right rs (λ q m. t q (List·Memᴰ·tail m)) _ _ ((step C v r) .volume) (sound-kept C law v s r tr) (bytewise-kept C v w r tr) (named-kept g k v s all r tr),
+          run-right rs (λ q m. t q (List·Memᴰ·tail m)) _ _ ((step C v r) .volume) (sound-kept C law v s r tr) (bytewise-kept C law v w r tr) (named-kept g k v s all r tr),
         )
 
     right-at : (past : List Moment) (m : Moment) (next : List Moment) (g : Names) (k : Keys) → RunRight g k (past ++ (m ∷ next))

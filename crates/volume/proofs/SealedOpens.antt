@@ -32,7 +32,8 @@ use Rattle.volume.specs.DirectoryNames.{derivedKey, nameKey, stored, rea
 use Rattle.volume.specs.Checks.{policyRefusal, blockCheck, showCheck, createCheck, linkCheck, renameCheck}
 use Rattle.volume.specs.Step.{lent, check, effect, settle, step, childOf}
 use Rattle.volume.specs.Sound.{Sound, dirOf}
-use Rattle.volume.specs.SealedOpens.{Bytewise, ShowsAs, SameKey, SameName, SealedOpens}
+use Rattle.volume.specs.Bytewise.{Bytewise}
+use Rattle.volume.specs.SealedOpens.{ShowsAs, SameKey, SameName, SealedOpens}
 use Rattle.volume.specs.declared.InodeNumber.{InodeNumber}
 use Rattle.volume.specs.declared.EntryNumber.{EntryNumber}
 use Rattle.volume.specs.declared.Key.{Key}
@@ -48,7 +49,7 @@ use Rattle.volume.proofs.SoundClimb.{num}
 use Rattle.volume.proofs.SoundInvariant.{pass, is-directory, one≢zero, used-range, name-ok}
 use Rattle.volume.proofs.SoundCreate.{free-kept}
 use Rattle.volume.proofs.ContextsStay.{context-stays}
-use Rattle.volume.proofs.Bytewise.{bytewise-kept}
+use Rattle.volume.proofs.Bytewise.{derived-bytes, name-key-bytes, bytewise-kept}
 
 -- what a show answers is no refusal, and speaks of one entry
 pub not-refused : (s : ShownEntry) (m : ℕ) → refused m ≢ shown s
@@ -94,13 +95,6 @@ module _ (C : Cipher) (v w : Volume) (dir : Inode) (k : SameKey v w dir) where
 -- ---- blocks
 
 module _ (C : Cipher) (law : Lawful C) where
-  pub derived-bytes : (v : Volume) → Bytewise v → (node : Inode) → ByteList (node .context .nonce) → ByteList (derivedKey C v node)
-  unfolding derivedKey keyOf
-  derived-bytes v w node hx =
-      let d = descriptorOf node in
-      let k = keyOf v d in
-      law .bytes-derive (masterKey v d) (node .context .nonce) (take-bytes (k .len) (k .bytes) (w .keys (keySlotOf v d))) hx
-
   -- the check of a block reads the inode and its key alone
   block-same : (v w : Volume) (i : InodeNumber) (n : ℕ) → inodeAt w i ≡ inodeAt v i → SameKey v w (inodeAt v i) → blockCheck w i n ≡ blockCheck v i n
   unfolding blockCheck
@@ -119,7 +113,7 @@ module _ (C : Cipher) (law : Lawful C) where
       ap (λ (o : Outcome). step C w (unseal i n (o .buffer))) (was-done C v (seal i n b) done na h)
       ∙ done-by C w (unseal i n sealed) again
       ∙ ap (λ (x : Bytes). outcome done (C .unseal x n sealed) w) same-key
-      ∙ ap (λ (x : Bytes). outcome done x w) (law .unseal-seal key n b (derived-bytes v bytes (inodeAt v i) (bytes .nonces (i .0))) hb)
+      ∙ ap (λ (x : Bytes). outcome done x w) (law .unseal-seal key n b (derived-bytes C law v bytes (inodeAt v i) (bytes .nonces (i .0))) hb)
 
   -- seal leaves the volume as it was
   block-opens : (v : Volume) → Bytewise v → (i : InodeNumber) (n : ℕ) (b : Bytes) → ByteList b → (step C v (seal i n b)) .answer ≡ done
@@ -136,10 +130,6 @@ module _ (C : Cipher) (law : Lawful C) where
     abbrev flags : ℕ
     flags = dir .context .policy .flags
 
-    key-bytes : ByteList (nameKey C v dir)
-    unfolding nameKey
-    key-bytes = take-bytes (nameKeySize (dir .context .policy)) (derivedKey C v dir) (derived-bytes v w dir hx)
-
     is-present : dir .encrypted ≡ true → keyPresent v dir ≡ true
     unfolding lacksKey
     is-present e = not-false (and-known e held)
@@ -147,7 +137,7 @@ module _ (C : Cipher) (law : Lawful C) where
     reads : dir .encrypted ≡ true → readName C v dir (stored C v dir n) ≡ record { checked = Fine; name = packed n }
     unfolding readName stored
     reads e =
-        ap (λ (s : Bytes). readPadded flags (C .decryptName (nameKey C v dir) s)) (if-true _ _ e) ∙ read-stored C law (nameKey C v dir) flags n key-bytes hn good
+        ap (λ (s : Bytes). readPadded flags (C .decryptName (nameKey C v dir) s)) (if-true _ _ e) ∙ read-stored C law (nameKey C v dir) flags n (name-key-bytes C law v w dir hx) hn good
 
     pub readable : isUnreadable C v dir (stored C v dir n) ≡ false
     unfolding isUnreadable
@@ -243,7 +233,7 @@ module _ (C : Cipher) (law : Lawful C) where
       let room = search-room isVacant (v .entries) noEntry entrySlots (s .entry-slots) h₈ in
       let new = entrySlot p (num (freeInode v)) (stored C v (inodeAt v p) n) in
       let q : _≡_ {A = EntryNumber} (record { 0 = freeEntry v }) e = entry-of (ap (λ (o : Outcome). o .answer) (sym eff) ∙ h) in
-      let w′ = subst (λ (o : Outcome). Bytewise (o .volume)) eff (bytewise-kept C v w r t) in
+      let w′ = subst (λ (o : Outcome). Bytewise (o .volume)) eff (bytewise-kept C law v w r t) in
       subst (λ (o : Outcome). ShowsAs C (o .volume) e n) (sym eff)
       (subst (λ (f : EntryNumber). ShowsAs C ((effect C v r) .volume) f n) q
       (shows-new v _ _ w′ (record { 0 = freeEntry v }) p (num (freeInode v)) n (t .0) (named .0) h₄
@@ -271,7 +261,7 @@ module _ (C : Cipher) (law : Lawful C) where
       let room = search-room isVacant (v .entries) noEntry entrySlots (s .entry-slots) h₈ in
       let new = entrySlot p i (stored C v (inodeAt v p) n) in
       let q : _≡_ {A = EntryNumber} (record { 0 = freeEntry v }) e = entry-of (ap (λ (o : Outcome). o .answer) (sym eff) ∙ h) in
-      let w′ = subst (λ (o : Outcome). Bytewise (o .volume)) eff (bytewise-kept C v w r t) in
+      let w′ = subst (λ (o : Outcome). Bytewise (o .volume)) eff (bytewise-kept C law v w r t) in
       subst (λ (o : Outcome). ShowsAs C (o .volume) e n) (sym eff)
       (subst (λ (f : EntryNumber). ShowsAs C ((effect C v r) .volume) f n) q
       (shows-new v _ _ w′ (record { 0 = freeEntry v }) p i n t (named .0) h₅ refl (getD-set-same (v .entries) (freeEntry v) new noEntry room)))
@@ -292,7 +282,7 @@ module _ (C : Cipher) (law : Lawful C) where
       pass _ ENOKEY _ (dir .1) λ h₄ k₄.
       pass _ ENOKEY _ k₄ λ h₅ k₅.
       let new = entrySlot p (entryAt v e .inode) (stored C v (inodeAt v p) n) in
-      let w′ = subst (λ (o : Outcome). Bytewise (o .volume)) eff (bytewise-kept C v w r t) in
+      let w′ = subst (λ (o : Outcome). Bytewise (o .volume)) eff (bytewise-kept C law v w r t) in
       subst (λ (o : Outcome). ShowsAs C (o .volume) e n) (sym eff)
       (shows-new v _ _ w′ e p (entryAt v e .inode) n t (named .0) h₅ refl
       (getD-set-same (v .entries) (e .0) new noEntry (used-range (v .entries) (e .0) h₂)))

@@ -1,4 +1,4 @@
--- Names shown without the key keep source document 001's promise, on every sound volume whose names are bytes and on every volume of every run. Two entries of
+-- Names shown without the key keep source document 001's promise, on every sound volume whose bytes are bytes and on every volume of every run. Two entries of
 -- one directory have different numbers and different stored names, so that what is shown of them differs. Assumes nothing.
 use Prim.Native.Nat.{ℕ, _-_, _<_}
 use native.Mathlib.Omega.{arith}
@@ -30,8 +30,8 @@ use Rattle.volume.specs.Checks.{showCheck}
 use Rattle.volume.specs.Step.{withInode, lent, check, effect, settle, step}
 use Rattle.volume.specs.Run.{Moment, momentOf, runFrom, run}
 use Rattle.volume.specs.Sound.{Sound, Used, slotAt}
-use Rattle.volume.specs.SealedOpens.{Bytewise}
-use Rattle.volume.specs.ShownApart.{NamesBytewise, ShownKeyless, KeepsPromise}
+use Rattle.volume.specs.Bytewise.{Bytewise}
+use Rattle.volume.specs.ShownApart.{ShownKeyless, KeepsPromise}
 use Rattle.volume.specs.declared.InodeNumber.{InodeNumber}
 use Rattle.volume.specs.declared.EntryNumber.{EntryNumber}
 use Rattle.volume.specs.declared.Inode.{Inode}
@@ -41,9 +41,9 @@ use Rattle.volume.specs.declared.ShownEntry.{ShownEntry}
 use Rattle.volume.specs.declared.Form.the-variants.{Plain, Decrypted, Encoded}
 use Rattle.volume.proofs.SoundInvariant.{pass, used-range}
 use Rattle.volume.proofs.Soundness.{sound}
-use Rattle.volume.proofs.Bytewise.{fresh-bytes, bytewise-kept}
+use Rattle.volume.proofs.Bytewise.{bytewise}
 use Rattle.volume.proofs.Kept.{was-fine, was-done}
-use Rattle.volume.proofs.SealedOpens.{not-refused, shown-one, derived-bytes}
+use Rattle.volume.proofs.SealedOpens.{not-refused, shown-one}
 
 -- ---- what show answers without the key
 
@@ -95,9 +95,9 @@ module _ (C : Cipher) (v : Volume) where
 number-same : (a b : EntryNumber) → a .0 ≡ b .0 → a ≡ b
 number-same a b q i = record { 0 = q i }
 
-module _ (C : Cipher) (v : Volume) (s : Sound v) (w : NamesBytewise v) where
+module _ (C : Cipher) (v : Volume) (s : Sound v) (w : Bytewise v) where
   name-bytes : (e : ℕ) → ByteList (nameOf (slotAt v e))
-  name-bytes e = take-bytes (slotAt v e .len) (slotAt v e .name) (w e)
+  name-bytes e = take-bytes (slotAt v e .len) (slotAt v e .name) (w .names e)
 
   in-table : (e : ℕ) → Used v e → e < 256
   in-table e u = omega (arith, used-range (v .entries) e u, s .entry-slots)
@@ -125,77 +125,7 @@ module _ (C : Cipher) (v : Volume) (s : Sound v) (w : NamesBytewise v) where
         (sym (is-encoded C v a p n h) ∙ is-encoded C v b p n k)));
   }
 
--- ---- stored names are bytes, after every request
+-- ---- on every volume of every run
 
-abbrev AllBytes : List Entry → Type 0
-AllBytes es = (e : ℕ) → ByteList ((getD es e noEntry) .name)
-
-set-entry : (es : List Entry) → AllBytes es → (j : ℕ) (x : Entry) → ByteList (x .name) → AllBytes (set es j x)
-set-entry es w j x h = all-set (λ i y. ByteList (y .name)) es noEntry j x (λ i. zeros-bytes 255) (λ i ne. w i) h
-
-fresh-names : NamesBytewise fresh
-unfolding fresh
-fresh-names e = subst (λ (x : Entry). ByteList (x .name)) (sym (all-same entrySlots e noEntry)) (zeros-bytes 255)
-
-settle-names : (v : Volume) (b : Bytes) (o : Outcome) → NamesBytewise v → (k : Checked) → NamesBytewise (o .volume) → NamesBytewise ((settle v b k o) .volume)
-unfolding settle
-settle-names v b o w Fine f = f
-settle-names v b o w (Refused e) f = w
-
-module _ (C : Cipher) (law : Lawful C) where
-  stored-bytes : (v : Volume) → Bytewise v → (p : InodeNumber) (n : Bytes) → ByteList n → ByteList (stored C v (inodeAt v p) n)
-  unfolding stored encrypted nameKey
-  stored-bytes v w p n h =
-      let dir = inodeAt v p in
-      let key : ByteList (nameKey C v dir) =
-      take-bytes (nameKeySize (dir .context .policy)) (derivedKey C v dir) (derived-bytes C law v w dir (w .nonces (p .0))) in
-      by-cond ByteList (dir .encrypted) _ _ (λ t. law .bytes-encryptName _ _ key (padded-bytes (dir .context .policy .flags) n h)) (λ f. h)
-
-  put-name : (v : Volume) → Bytewise v → NamesBytewise v → (j : ℕ) (p i : InodeNumber) (n : Bytes) → ByteList n
-      → AllBytes (set (v .entries) j (entrySlot p i (stored C v (inodeAt v p) n)))
-  put-name v w u j p i n h =
-      let s = stored C v (inodeAt v p) n in
-      let z : ℕ = 255 - length s in
-      set-entry (v .entries) u j (entrySlot p i s) (append-bytes s (zeros z) (stored-bytes v w p n h) (zeros-bytes z))
-
-  effect-names : (v : Volume) → Bytewise v → NamesBytewise v → (r : Request) → Typed r → NamesBytewise ((effect C v r) .volume)
-  unfolding effect
-  effect-names v w u (addKey d k) t = u
-  effect-names v w u (removeKey d) t = u
-  effect-names v w u (setPolicy i p x) t = by-cond NamesBytewise (inodeAt v i .encrypted) _ _ (λ e. u) (λ e. u)
-  effect-names v w u (getPolicy i) t = u
-  effect-names v w u (create p kind n x) t = put-name v w u (freeEntry v) p (record { 0 = freeInode v }) n (t .0)
-  effect-names v w u (link i p n) t = put-name v w u (freeEntry v) p i n t
-  effect-names v w u (rename e p n) t = put-name v w u (e .0) p (entryAt v e .inode) n t
-  effect-names v w u (exchange a b) t =
-      let one = withInode (entryAt v a) (entryAt v b .inode) in
-      let other = withInode (entryAt v b) (entryAt v a .inode) in
-      set-entry (set (v .entries) (a .0) one) (set-entry (v .entries) u (a .0) one (u (a .0))) (b .0) other (u (b .0))
-  effect-names v w u (remove e) t = set-entry (v .entries) u (e .0) noEntry (zeros-bytes 255)
-  effect-names v w u (find p n) t = u
-  effect-names v w u (show e b) t = u
-  effect-names v w u (seal i n b) t = u
-  effect-names v w u (unseal i n b) t = u
-
-  step-names : (v : Volume) → Bytewise v → NamesBytewise v → (r : Request) → Typed r → NamesBytewise ((step C v r) .volume)
-  unfolding step
-  step-names v w u r t = settle-names v (lent r) (effect C v r) u (check C v r) (effect-names v w u r t)
-
-  names-from : (rs : List Request) (v : Volume) → Bytewise v → NamesBytewise v → AllTyped rs → (m : Moment) → List·Memᴰ m (runFrom C v rs) → NamesBytewise (m .volume)
-  unfolding runFrom momentOf
-  names-from [] v w u t m h = absurd (List·Memᴰ·not-nil h)
-  names-from (r ∷ rs) v w u t m h =
-      let typed = t r (List·Memᴰ·head refl) in
-      let w′ = bytewise-kept C v w r typed in
-      let u′ = step-names v w u r typed in
-      go (List·Memᴰ·cases-cons h) u′ (names-from rs ((step C v r) .volume) w′ u′ (λ q p. t q (List·Memᴰ·tail p)) m)
-    where
-      go : (m ≡ momentOf r (step C v r)) ⊎ List·Memᴰ m (runFrom C ((step C v r) .volume) rs) → NamesBytewise ((step C v r) .volume)
-          → (List·Memᴰ m (runFrom C ((step C v r) .volume) rs) → NamesBytewise (m .volume)) → NamesBytewise (m .volume)
-      go (inl e) u ih = subst NamesBytewise (ap (λ (x : Moment). x .volume) (sym e)) u
-      go (inr p) u ih = ih p
-
-  -- ---- on every volume of every run
-
-  pub promise-kept : (rs : List Request) → AllTyped rs → (m : Moment) → List·Memᴰ m (run C rs) → KeepsPromise C (m .volume)
-  promise-kept rs t m h = keeps-promise C (m .volume) (sound C law rs t m h) (names-from rs fresh fresh-bytes fresh-names t m h)
+pub promise-kept : (C : Cipher) → Lawful C → (rs : List Request) → AllTyped rs → (m : Moment) → List·Memᴰ m (run C rs) → KeepsPromise C (m .volume)
+promise-kept C law rs t m h = keeps-promise C (m .volume) (sound C law rs t m h) (bytewise C law rs t m h)

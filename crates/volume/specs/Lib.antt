@@ -8,6 +8,7 @@ pub mod Step
 pub mod Leaves
 pub mod Run
 pub mod Sound
+pub mod Bytewise
 pub mod PolicyClause
 pub mod SealedOpens
 pub mod ShownApart

@@ -12,18 +12,14 @@ use Rattle.volume.specs.Request.{Request, Typed, AllTyped, create, link,
 use Rattle.volume.specs.Lookup.{keyOf, descriptorOf, inodeAt, isFree, entryAt}
 use Rattle.volume.specs.Step.{step}
 use Rattle.volume.specs.Run.{Moment, runFrom}
-use Rattle.volume.specs.Sound.{Sound, keyAt, nodeAt, dirOf}
+use Rattle.volume.specs.Sound.{Sound, dirOf}
+use Rattle.volume.specs.Bytewise.{Bytewise}
 use Rattle.volume.specs.declared.InodeNumber.{InodeNumber}
 use Rattle.volume.specs.declared.EntryNumber.{EntryNumber}
 use Rattle.volume.specs.declared.Inode.{Inode}
 use Rattle.volume.specs.declared.ShownEntry.{ShownEntry}
 use Rattle.volume.specs.declared.Form.the-variants.{Encoded}
 use Rattle.volume.specs.declared.Volume.{Volume}
-
--- what the types say of a volume's keys and nonces: their bytes are bytes
-pub record Bytewise (v : Volume) : Type 0 where
-  pub keys : (k : ℕ) → ByteList ((keyAt v k) .bytes)
-  pub nonces : (i : ℕ) → ByteList ((nodeAt v i) .context .nonce)
 
 -- show answers this name for this entry, plain or decrypted, with any buffer that has room
 abbrev pub ShowsAs : Cipher → Volume → EntryNumber → Bytes → Type 0

@@ -4,20 +4,15 @@ use Prim.Native.Nat.{ℕ, _≤_, _<_}
 use mathlib.Core.Path.{_≡_}
 use mathlib.Core.Logic.{_≢_}
 use lib.ListN.{length, take, getD}
-use Rattle.lists.specs.Bytes.{Bytes, ByteList}
+use Rattle.lists.specs.Bytes.{Bytes}
 use Rattle.fscrypt.specs.Cipher.{Cipher}
 use Rattle.volume.specs.Request.{show, shown}
 use Rattle.volume.specs.Step.{step}
-use Rattle.volume.specs.Sound.{slotAt}
 use Rattle.volume.specs.declared.InodeNumber.{InodeNumber}
 use Rattle.volume.specs.declared.EntryNumber.{EntryNumber}
 use Rattle.volume.specs.declared.ShownEntry.{ShownEntry}
 use Rattle.volume.specs.declared.Form.the-variants.{Encoded}
 use Rattle.volume.specs.declared.Volume.{Volume}
-
--- what the types say of a volume's stored names: their bytes are bytes
-abbrev pub NamesBytewise : Volume → Type 0
-NamesBytewise v = (e : ℕ) → ByteList ((slotAt v e) .name)
 
 -- with some buffer show answers, without the key, that this entry stands in this directory under this name
 pub record ShownKeyless (C : Cipher) (v : Volume) (e : EntryNumber) (dir : InodeNumber) (n : Bytes) : Type 0 where

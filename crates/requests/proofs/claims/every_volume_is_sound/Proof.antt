@@ -7,7 +7,7 @@ use Rattle.requests.proofs.claims.every_volume_is_sound.Statement.{stat
 use Rattle.requests.proofs.claims.every_volume_is_sound.Tie as tie
 
 returns : tie.Need-returns
-returns c = (fresh-sound, fresh-bytes, λ rs t m h. (sound fscrypt fscrypt-lawful rs t m h, bytewise fscrypt rs t m h))
+returns c = (fresh-sound, fresh-bytes, λ rs t m h. (sound fscrypt fscrypt-lawful rs t m h, bytewise fscrypt fscrypt-lawful rs t m h))
 
 pub every-volume-is-sound-spec : {M : Type 1} → statement M
 every-volume-is-sound-spec = tie.close (tie.spec returns)
