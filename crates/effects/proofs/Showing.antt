@@ -5,9 +5,8 @@ use mathlib.Core.Bool.{true, false}
 use Prim.Native.Nat.{ℕ, _<_}
 use lib.ListN.{length, take, getD}
 use lib.Seq.{getD-take}
-use borrow.Author.Tests.{not-false}
 use Rattle.lists.specs.Bytes.{Bytes, laidOver}
-use Rattle.lists.proofs.Tests.{if-true, if-false, and-known}
+use Rattle.lists.proofs.Tests.{if-true, if-false}
 use Rattle.fscrypt.specs.Cipher.{Cipher}
 use Rattle.fscrypt.specs.Names.{nameBytes, packed}
 use Rattle.fscrypt.specs.declared.NameRead.{NameRead}
@@ -26,6 +25,7 @@ use Rattle.volume.specs.declared.Entry.{Entry}
 use Rattle.volume.specs.declared.Volume.{Volume}
 use Rattle.volume.specs.declared.Form.{Form}
 use Rattle.volume.specs.declared.Form.the-variants.{Plain, Decrypted, Encoded}
+use Rattle.volume.proofs.Passed.{key-present}
 
 -- ---- show
 
@@ -80,5 +80,4 @@ module _ (C : Cipher) (v : Volume) where
 
 -- the inode read is encrypted and its key is not needed: it is there
 pub key-there : (v : Volume) (i : InodeNumber) (node : Inode) → node ≡ inodeAt v i → lacksKey v (inodeAt v i) ≡ false → inodeAt v i .encrypted ≡ true → keyPresent v node ≡ true
-unfolding lacksKey
-key-there v i node h k e = ap (keyPresent v) h ∙ not-false (keyPresent v (inodeAt v i)) (and-known e k)
+key-there v i node h k e = ap (keyPresent v) h ∙ key-present v (inodeAt v i) e k

@@ -6,9 +6,9 @@ use Prim.Native.Nat.{ℕ, _≤_}
 use lib.ListN.{length, take}
 use lib.Seq.{take-length}
 use lib.Dec.{eqb}
-use borrow.Author.Tests.{eqb-true, not-false}
+use borrow.Author.Tests.{eqb-true}
 use Rattle.lists.specs.Bytes.{Bytes}
-use Rattle.lists.proofs.Tests.{if-true, if-false, and-known}
+use Rattle.lists.proofs.Tests.{if-true, if-false}
 use Rattle.errno.specs.Refusals.{isFine}
 use Rattle.errno.specs.declared.Errno.the-variants.{EUCLEAN}
 use Rattle.errno.specs.declared.Checked.{Checked}
@@ -21,7 +21,7 @@ use Rattle.fscrypt.specs.declared.Name.{Name}
 use Rattle.fscrypt.specs.declared.NameRead.{NameRead}
 use Rattle.fscrypt.proofs.Padding.{nameBytes-packed}
 use Rattle.volume.specs.Volume.{keyBytes}
-use Rattle.volume.specs.Lookup.{inodeAt, keyOf, descriptorOf, keyPresent, lacksKey, entryNamed}
+use Rattle.volume.specs.Lookup.{inodeAt, keyOf, descriptorOf, keyPresent, entryNamed}
 use Rattle.volume.specs.DirectoryNames.{derivedKey, nameKey, stored, readName, shownName, isUnreadable}
 use Rattle.volume.specs.declared.EntryNumber.{EntryNumber}
 use Rattle.volume.specs.declared.InodeNumber.{InodeNumber}
@@ -66,10 +66,6 @@ pub derived-by : (C : Cipher) (v : Volume) (i : Inode) (k : Key) (r : Bytes) →
     → r ≡ C .derive (k .bytes) (i .context .nonce) → r ≡ derivedKey C v i
 unfolding derivedKey
 derived-by C v i k r e p l q = q ∙ ap (λ (b : Bytes). C .derive b (i .context .nonce)) (whole-key v i k e p l)
-
-pub present : (v : Volume) (i : Inode) → i .encrypted ≡ true → lacksKey v i ≡ false → keyPresent v i ≡ true
-unfolding lacksKey
-present v i e h = not-false (keyPresent v i) (and-known e h)
 
 module _ (C : Cipher) (v : Volume) (dir : Inode) where
   pub stored-plain : (n : Bytes) (r : Name) → dir .encrypted ≡ false → r ≡ packed n → r ≡ packed (stored C v dir n)

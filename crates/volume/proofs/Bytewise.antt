@@ -1,9 +1,9 @@
 -- The bytes of a volume are bytes, after every request: each is zeros, was handed in by a request, or was made of such by a lawful cipher. A request stores one key,
 -- one inode or one entry, or two entries, so it is enough that what it stores is of bytes. Assumes nothing.
 use Prim.Native.Nat.{ℕ, zero, suc, _-_}
-use mathlib.Core.Path.{_≡_, sym, subst}
+use mathlib.Core.Path.{sym, subst}
 use mathlib.Core.List.{List, _++_, List·Memᴰ}
-use lib.ListN.{length, getD, set, drop}
+use lib.ListN.{getD, set, drop}
 use Rattle.lists.specs.Bytes.{Bytes, ByteList, zeros}
 use Rattle.lists.proofs.ByteStrings.{append-bytes, take-bytes, drop-bytes, zeros-bytes}
 use Rattle.lists.proofs.Tables.{all-set}
@@ -21,7 +21,7 @@ use Rattle.volume.specs.DirectoryNames.{derivedKey, nameKey, stored}
 use Rattle.volume.specs.Checks.{isNonceNeeded}
 use Rattle.volume.specs.Step.{withInode, childOf, withoutUnheld, effect, step}
 use Rattle.volume.specs.Run.{Moment, run}
-use Rattle.volume.specs.Sound.{keyAt, nodeAt, slotAt}
+use Rattle.volume.specs.Sound.{nodeAt}
 use Rattle.volume.specs.Bytewise.{Bytewise}
 use Rattle.volume.specs.declared.InodeNumber.{InodeNumber}
 use Rattle.volume.specs.declared.Key.{Key}

@@ -2,23 +2,21 @@
 -- and the other requests leave the inodes. So through every run. Assumes nothing.
 use Prim.Native.Nat.{ℕ}
 use mathlib.Core.Path.{_≡_, refl, sym, _∙_, ap}
-use mathlib.Core.Logic.{_≢_, _⊎_, inl, inr}
-use mathlib.Core.Bool.{true, false, true≢false, false≢true}
-use mathlib.Core.List.{List, [], _∷_, List·Memᴰ, List·Memᴰ·not-nil, List·Memᴰ·cases-cons, List·Memᴰ·head, List·Memᴰ·tail}
+use mathlib.Core.Logic.{_≢_}
+use mathlib.Core.Bool.{true, false, true≢false}
+use mathlib.Core.List.{List, List·Memᴰ}
 use lib.ListN.{getD, set}
 use lib.Seq.{getD-set-same, getD-set-other}
 use borrow.Author.Tests.{eq-eqb}
 use Rattle.lists.specs.Bytes.{Bytes}
 use Rattle.lists.proofs.Slots.{by-eq, by-cond, within}
-use Rattle.errno.specs.declared.Checked.{Checked}
-use Rattle.errno.specs.declared.Checked.the-variants.{Fine, Refused}
 use Rattle.policy.specs.Policies.{readPolicy}
 use Rattle.fscrypt.specs.Cipher.{Cipher, Lawful}
 use Rattle.volume.specs.Volume.{noInode, noEntry, encryptedInode}
-use Rattle.volume.specs.Request.{Request, AllTyped, addKey, removeKey, setPolicy, getPolicy, create, link, rename, exchange, remove, find, show, seal, unseal, Outcome}
+use Rattle.volume.specs.Request.{Request, AllTyped, addKey, removeKey, setPolicy, getPolicy, create, link, rename, exchange, remove, find, show, seal, unseal}
 use Rattle.volume.specs.Lookup.{inodeAt, isFree, entryAt, isHeld}
-use Rattle.volume.specs.Step.{childOf, withoutUnheld, withInodes, lent, check, effect, settle, step}
-use Rattle.volume.specs.Run.{Moment, momentOf, runFrom}
+use Rattle.volume.specs.Step.{childOf, withoutUnheld, withInodes, effect, step}
+use Rattle.volume.specs.Run.{Moment, runFrom}
 use Rattle.volume.specs.Sound.{Sound, nodeAt}
 use Rattle.volume.specs.SealedOpens.{Stays}
 use Rattle.volume.specs.declared.InodeNumber.{InodeNumber}

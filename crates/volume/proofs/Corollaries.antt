@@ -17,7 +17,7 @@ use Rattle.volume.specs.Request.{Request, addKey, removeKey, setPolicy, 
 use Rattle.volume.specs.Lookup.{inodeAt}
 use Rattle.volume.specs.Run.{Moment, run}
 use Rattle.volume.specs.GivenNames.{given}
-use Rattle.volume.specs.TwoRuns.{SameButKeys, OneKeyEach, blankRequest, blankStart, blankKey, blankEntry, blankVolume, blankLetters, blankShown, blankName, blankBlock, blankBuffer, blank, NamesAsGiven, Agree, TwoRuns}
+use Rattle.volume.specs.TwoRuns.{SameButKeys, OneKeyEach, blankRequest, blankStart, blankKey, blankEntry, blankVolume, blankLetters, blankShown, blankName, blankBlock, blankBuffer, blank, Agree, TwoRuns}
 use Rattle.volume.specs.declared.EntryNumber.{EntryNumber}
 use Rattle.volume.specs.declared.ShownEntry.{ShownEntry}
 use Rattle.volume.specs.declared.Form.{Form}
@@ -234,9 +234,6 @@ module _ (C : Cipher) (law : Lawful C) (rs₁ rs₂ : List Request) (typed₁ : 
 
 -- ---- the lists that are meant: two keys are added, whatever their bytes, and then anything is asked
 
-key-same : (d d′ k k′ : Bytes) → addKey d′ k′ ≡ addKey d k → (d′ ≡ d) × (k′ ≡ k)
-key-same d d′ k k′ h = (cc, cc)
-
 module _ (d e : Bytes) (apart : d ≢ e) (rs : List Request) (no-more : (d′ k′ : Bytes) → List·Memᴰ (addKey d′ k′) rs → ⊥) where
   abbrev keyed : Bytes → Bytes → List Request
   keyed k l = addKey d k ∷ addKey e l ∷ rs
@@ -248,11 +245,11 @@ module _ (d e : Bytes) (apart : d ≢ e) (rs : List Request) (no-more : (d′ k�
       which k′ h = first (List·Memᴰ·cases-cons h)
         where
           second : (addKey d′ k′ ≡ addKey e l) ⊎ List·Memᴰ (addKey d′ k′) rs → ((d′ ≡ d) × (k′ ≡ k)) ⊎ ((d′ ≡ e) × (k′ ≡ l))
-          second (inl q) = inr (key-same e d′ l k′ q)
+          second (inl q) = inr (cc, cc)
           second (inr m) = absurd (no-more d′ k′ m)
 
           first : (addKey d′ k′ ≡ addKey d k) ⊎ List·Memᴰ (addKey d′ k′) (addKey e l ∷ rs) → ((d′ ≡ d) × (k′ ≡ k)) ⊎ ((d′ ≡ e) × (k′ ≡ l))
-          first (inl q) = inl (key-same d d′ k k′ q)
+          first (inl q) = inl (cc, cc)
           first (inr m) = second (List·Memᴰ·cases-cons m)
 
       both : ((d′ ≡ d) × (k₁ ≡ k)) ⊎ ((d′ ≡ e) × (k₁ ≡ l)) → ((d′ ≡ d) × (k₂ ≡ k)) ⊎ ((d′ ≡ e) × (k₂ ≡ l)) → k₁ ≡ k₂

@@ -2,7 +2,7 @@
 -- stated about runs is stated of nothing. Assumes nothing.
 use Prim.Native.Nat.{ℕ, _+_, _-_, _%_}
 use mathlib.Core.Path.{_≡_, refl}
-use mathlib.Core.List.{List, [], _∷_, _++_, map}
+use mathlib.Core.List.{List, [], _∷_, map}
 use lib.ListN.{length, getD, replicate}
 use Rattle.lists.specs.Bytes.{Bytes, zeros, firstAt, same, hexDigit}
 use Rattle.errno.specs.Refusals.{_⇒_, _>>_}
@@ -19,7 +19,6 @@ use Rattle.volume.specs.Step.{childOf, withoutUnheld, lent, check, effec
 use Rattle.volume.specs.Run.{Moment, momentOf, runFrom, run}
 use Rattle.volume.specs.declared.InodeNumber.{InodeNumber}
 use Rattle.volume.specs.declared.EntryNumber.{EntryNumber}
-use Rattle.volume.specs.declared.ShownEntry.{ShownEntry}
 use Rattle.volume.specs.declared.Form.{Form}
 use Rattle.volume.specs.declared.Form.the-variants.{Plain, Decrypted, Encoded}
 

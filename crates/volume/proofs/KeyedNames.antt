@@ -9,14 +9,12 @@ use mathlib.Core.List.{List, [], _∷_, _++_, List·Memᴰ·head, List·Memᴰ·
 use mathlib.Core.Option.{Option, some, none}
 use lib.ListN.{length, take}
 use lib.Dec.{ltb}
-use borrow.Author.Tests.{ltb-false}
 use Rattle.lists.specs.Bytes.{Bytes, ByteList}
-use Rattle.lists.proofs.Tests.{not-false, and-left, and-right, if-false}
+use Rattle.lists.proofs.Tests.{and-left, and-right, if-false}
 use Rattle.lists.proofs.Slots.{by-test}
 use Rattle.errno.specs.Refusals.{number, _⇒_, _>>_}
 use Rattle.errno.specs.declared.Errno.the-variants.{ENOENT, ERANGE, EUCLEAN}
-use Rattle.errno.specs.declared.Checked.{Checked}
-use Rattle.errno.specs.declared.Checked.the-variants.{Fine, Refused}
+use Rattle.errno.specs.declared.Checked.the-variants.{Fine}
 use Rattle.policy.specs.Policies.{isMasterKeySize, nameKeySize}
 use Rattle.fscrypt.specs.Cipher.{Cipher, Lawful, fscrypt}
 use Rattle.fscrypt.specs.Names.{nameCheck, encrypted}
@@ -37,11 +35,12 @@ use Rattle.volume.specs.declared.EntryNumber.{EntryNumber}
 use Rattle.volume.specs.declared.Inode.{Inode}
 use Rattle.volume.specs.declared.Volume.{Volume}
 use Rattle.volume.specs.declared.ShownEntry.{ShownEntry}
-use Rattle.volume.proofs.SoundInvariant.{pass}
+use Rattle.volume.proofs.Passed.{key-present, show-passed}
 use Rattle.volume.proofs.Soundness.{fresh-sound, fresh-unused, sound-kept}
 use Rattle.volume.proofs.Bytewise.{fresh-bytes, bytewise-kept}
 use Rattle.volume.proofs.Kept.{was-fine}
-use Rattle.volume.proofs.SealedOpens.{not-refused, shown-one, readable, shows}
+use Rattle.volume.proofs.SealedOpens.{not-refused, readable, shows}
+use Rattle.volume.proofs.Leaves.{leaves}
 use Rattle.volume.proofs.NamesSince.{Since, stayed, gained, step-since}
 
 module _ (C : Cipher) where
@@ -77,9 +76,9 @@ module _ (C : Cipher) where
 
   -- a key that is present has the size that the policy asks for
   present-sized : (v : Volume) → Sound v → (dir : Inode) → lacksKey v dir ≡ false → dir .encrypted ≡ true → isMasterKeySize (dir .context .policy) (length (masterKey v (descriptorOf dir))) ≡ true
-  unfolding lacksKey keyPresent keyOf
+  unfolding keyPresent keyOf
   present-sized v s dir h t =
-      ap (isMasterKeySize (dir .context .policy)) (s .key-sizes (keySlotOf v (descriptorOf dir))) ∙ not-false (sym (ap (λ (b : Bool). b && not (keyPresent v dir)) t) ∙ h)
+      ap (isMasterKeySize (dir .context .policy)) (s .key-sizes (keySlotOf v (descriptorOf dir))) ∙ key-present v dir t h
 
   sized-present : (v : Volume) → Sound v → (dir : Inode) → (dir .encrypted ≡ true → isMasterKeySize (dir .context .policy) (length (masterKey v (descriptorOf dir))) ≡ true) → lacksKey v dir ≡ false
   unfolding lacksKey keyPresent keyOf
@@ -167,20 +166,12 @@ module _ (C : Cipher) where
 
       named-show : HasKey v (e .0) (k (e .0)) → (b : Bytes) (x : ShownEntry) → (step C v (show e b)) .answer ≡ shown x
           → g (e .0) ≡ some (take (x .len) ((step C v (show e b)) .buffer))
-      unfolding check showCheck
+      unfolding check
       named-show same b x h =
-          pass _ ERANGE _ (was-fine C v (show e b) (shown x) (not-refused x) h) λ h₁ k₁.
-          pass _ ENOENT _ k₁ λ h₂ k₂.
-          let r = shows-given same h₂ b (ltb-false (length b) 255 h₁) in
-          all (e .0) h₂ .is-given ∙ ap some (sym (r .3) ∙ ap (λ (n : ℕ). take n ((step C v (show e b)) .buffer)) (ap (λ (x : ShownEntry). x .len) (shown-one (sym (r .1) ∙ h))))
-
-    shown-volume : (v : Volume) (e : EntryNumber) (b : Bytes) → (step C v (show e b)) .volume ≡ v
-    unfolding step settle effect
-    shown-volume v e b = go (check C v (show e b))
-      where
-        go : (c : Checked) → (settle v (lent (show e b)) c (effect C v (show e b))) .volume ≡ v
-        go Fine = refl
-        go (Refused n) = refl
+          let c = show-passed C v e (length b) (was-fine C v (show e b) (shown x) (not-refused x) h) in
+          let r = shows-given same (c .entry) b (c .room) in
+          let l : r .0 .len ≡ x .len = cc (sym (r .1) ∙ h) in
+          all (e .0) (c .entry) .is-given ∙ ap some (sym (r .3) ∙ ap (λ (n : ℕ). take n ((step C v (show e b)) .buffer)) l)
 
     moment-right : (g : Names) (k : Keys) (v : Volume) → Sound v → Bytewise v → AllNamed g k v → (r : Request) → ShownByKey g k (momentOf r (step C v r))
     unfolding momentOf
@@ -198,7 +189,7 @@ module _ (C : Cipher) where
         answer q = ap (λ (r : Request). (step C v r) .answer) q
 
         same : (e : EntryNumber) (b : Bytes) → r ≡ show e b → (step C v r) .volume ≡ v
-        same e b q = ap (λ (r : Request). (step C v r) .volume) q ∙ shown-volume v e b
+        same e b q = ap (λ (r : Request). (step C v r) .volume) q ∙ leaves C .showing v e b
 
         has-key : (e : EntryNumber) (b : Bytes) → r ≡ show e b → HasKey ((step C v r) .volume) (e .0) (k (e .0)) → HasKey v (e .0) (k (e .0))
         has-key e b q = subst (λ (x : Volume). HasKey x (e .0) (k (e .0))) (same e b q)

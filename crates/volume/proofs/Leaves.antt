@@ -9,20 +9,18 @@ use lib.Seq.{drop-append-seam}
 use Rattle.lists.specs.Bytes.{Bytes}
 use Rattle.errno.specs.Refusals.{number}
 use Rattle.errno.specs.declared.Errno.{Errno}
-use Rattle.errno.specs.declared.Checked.{Checked}
-use Rattle.errno.specs.declared.Checked.the-variants.{Fine, Refused}
 use Rattle.fscrypt.specs.Cipher.{Cipher}
 use Rattle.volume.specs.Volume.{nameOf}
 use Rattle.volume.specs.Request.{Request, addKey, removeKey, setPolicy, getPolicy, create, link, rename, exchange, remove, find, show, seal, unseal, Answer, refused, done, created, at, policyIs, shown, Outcome, outcome}
 use Rattle.volume.specs.Lookup.{inodeAt, entryAt}
 use Rattle.volume.specs.DirectoryNames.{shownName}
-use Rattle.volume.specs.Step.{lent, check, effect, settle, step}
+use Rattle.volume.specs.Step.{lent, effect, step}
 use Rattle.volume.specs.Leaves.{Refuses, Leaves}
 use Rattle.volume.specs.declared.EntryNumber.{EntryNumber}
 use Rattle.volume.specs.declared.ShownEntry.{ShownEntry}
 use Rattle.volume.specs.declared.Volume.{Volume}
 use Rattle.volume.proofs.Kept.{step-has, volume-has, was-done}
-use Rattle.volume.proofs.SealedOpens.{not-refused, shown-one}
+use Rattle.volume.proofs.SealedOpens.{not-refused}
 
 abbrev isRefusal : Answer → Bool
 isRefusal (refused n) = true
@@ -71,7 +69,7 @@ module _ (C : Cipher) (v : Volume) where
   past-the-name e b s h =
       let d = was-done C v (show e b) (shown s) (not-refused s) h in
       let n = shownName C v (inodeAt v (entryAt v e .parent)) e (nameOf (entryAt v e)) in
-      let l : length n ≡ s .len = ap (λ (x : ShownEntry). x .len) (shown-one (ap (λ (o : Outcome). o .answer) (sym d) ∙ h)) in
+      let l : length n ≡ s .len = cc (ap (λ (o : Outcome). o .answer) (sym d) ∙ h) in
       ap (λ (o : Outcome). drop (s .len) (o .buffer)) d
       ∙ ap (λ (k : ℕ). drop k (n ++ drop (length n) b)) (sym l)
       ∙ drop-append-seam n (drop (length n) b)

@@ -9,6 +9,7 @@ mod SoundPolicy
 mod SoundCore
 mod SoundClimb
 mod SoundInvariant
+pub mod Passed
 mod SoundKeys
 mod SoundSetPolicy
 mod SoundLink

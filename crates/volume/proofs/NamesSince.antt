@@ -1,28 +1,25 @@
 -- What a request does to the stored name of an entry that is in use after it: it gave the entry this name and stored it under the key that is on the keyring, or it
 -- left the stored name and the entry's directory as they were. Assumes nothing.
 use Prim.Native.Nat.{ℕ, _<_}
+use native.Mathlib.Omega.{arith}
 use mathlib.Core.Path.{_≡_, refl, sym, _∙_, ap, subst}
-use mathlib.Core.Bool.{false, not}
+use mathlib.Core.Bool.{false}
 use mathlib.Core.List.{List}
 use mathlib.Core.Option.{Option, some, none}
 use lib.ListN.{length, getD, set}
 use lib.Seq.{getD-set-same, getD-set-other}
 use Rattle.lists.specs.Bytes.{Bytes, ByteList}
-use Rattle.lists.proofs.Tests.{and-known, if-true, if-false, eqb-self, eqb-other}
-use Rattle.lists.proofs.Slots.{by-eq, by-cond, search-room}
-use Rattle.errno.specs.declared.Errno.the-variants.{EPERM, ENOENT, EEXIST, ENOTDIR, EINVAL, ENOSPC, ENOTEMPTY, ENOTUNIQ, ENOKEY}
-use Rattle.errno.specs.declared.Checked.{Checked}
-use Rattle.errno.specs.declared.Checked.the-variants.{Fine, Refused}
-use Rattle.errno.proofs.Chains.{passed}
-use Rattle.policy.specs.Policies.{policyCheck}
+use Rattle.lists.proofs.Tests.{if-true, if-false, eqb-self, eqb-other}
+use Rattle.lists.proofs.Slots.{by-eq, by-cond}
+use Rattle.errno.specs.declared.Checked.the-variants.{Fine}
 use Rattle.fscrypt.specs.Cipher.{Cipher, Lawful}
 use Rattle.fscrypt.specs.Names.{nameCheck}
-use Rattle.volume.specs.Volume.{entrySlots, noInode, noEntry, nameOf, entrySlot}
+use Rattle.volume.specs.Volume.{noInode, noEntry, nameOf, entrySlot}
 use Rattle.volume.specs.Request.{Request, addKey, removeKey, setPolicy, getPolicy, create, link, rename, exchange, remove, find, show, seal, unseal, Outcome, Typed}
-use Rattle.volume.specs.Lookup.{keySlotOf, keyOf, keyPresent, lacksKey, inodeAt, freeInode, entryAt, isVacant, freeEntry, isHeld}
+use Rattle.volume.specs.Lookup.{lacksKey, inodeAt, freeInode, entryAt, isVacant, freeEntry, isHeld}
 use Rattle.volume.specs.DirectoryNames.{stored}
-use Rattle.volume.specs.Checks.{policyRefusal, setPolicyCheck, createCheck, linkCheck, renameCheck, exchangeCheck, removeCheck}
-use Rattle.volume.specs.Step.{childOf, withoutUnheld, lent, check, effect, settle, step}
+use Rattle.volume.specs.Checks.{setPolicyCheck, createCheck, linkCheck, renameCheck, exchangeCheck, removeCheck}
+use Rattle.volume.specs.Step.{childOf, withoutUnheld, check, effect, step}
 use Rattle.volume.specs.Sound.{Sound, Used, nodeAt, slotAt, dirOf}
 use Rattle.volume.specs.GivenNames.{onlyAt, named, naming, namedBy}
 use Rattle.volume.specs.declared.InodeNumber.{InodeNumber}
@@ -31,15 +28,15 @@ use Rattle.volume.specs.declared.Inode.{Inode}
 use Rattle.volume.specs.declared.Entry.{Entry}
 use Rattle.volume.specs.declared.Volume.{Volume}
 use Rattle.volume.proofs.Kept.{step-has}
-use Rattle.volume.proofs.SoundCore.{nodeIn, slot-name}
+use Rattle.volume.proofs.SoundCore.{nodeIn, slot-name, none-in}
 use Rattle.volume.proofs.SoundClimb.{num}
-use Rattle.volume.proofs.SoundInvariant.{pass, is-directory, one≢zero, used-range}
-use Rattle.volume.proofs.SoundSetPolicy.{none-in}
+use Rattle.volume.proofs.SoundInvariant.{one≢zero, used-range}
+use Rattle.volume.proofs.Passed.{create-passed, link-passed, rename-passed, set-policy-passed, exchange-passed, remove-passed}
 use Rattle.volume.proofs.SoundCreate.{free-kept}
 use Rattle.volume.proofs.SoundExchange.{look}
 use Rattle.volume.proofs.SoundRemove.{left-other, left-same}
 use Rattle.volume.proofs.Soundness.{sound-inv}
-use Rattle.volume.proofs.SealedOpens.{stored-same}
+use Rattle.volume.proofs.SealedOpens.{stored-same, held-same}
 
 -- of an entry e in use on w, the volume that a request left of v, which gave e the name o if any
 pub data Since (C : Cipher) (v w : Volume) (o : Option Bytes) (e : ℕ) : Type 0 where
@@ -64,11 +61,6 @@ module _ (C : Cipher) (law : Lawful C) (v : Volume) (s : Sound v) where
     abbrev w : Volume
     w = record { keys = v .keys; inodes = is; entries = es }
 
-    -- the keyring is as it was
-    lacks-same : (d : Inode) → lacksKey w d ≡ lacksKey v d
-    unfolding lacksKey keyPresent keyOf keySlotOf
-    lacks-same d = refl
-
     stored-since : (j : ℕ) → Used w j → Since C v w (onlyAt (record { 0 = e }) n j) j
     stored-since j u =
         by-eq j e
@@ -76,7 +68,7 @@ module _ (C : Cipher) (law : Lawful C) (v : Volume) (s : Sound v) where
         subst (λ (m : ℕ). Since C v w (onlyAt (record { 0 = e }) n m) m) (sym q)
         (gained n (if-true _ _ (eqb-self e)) good bytes
         (ap nameOf here ∙ slot-name p i (stored C v (inodeAt v p) n) ∙ sym (stored-same C law v is es (inodeAt v p) n) ∙ ap (λ (d : Inode). stored C w d n) (sym dir))
-        (ap (lacksKey w) dir ∙ lacks-same (inodeAt v p) ∙ held)))
+        (ap (lacksKey w) dir ∙ held-same C law v is es (inodeAt v p) ∙ held)))
         (λ ne.
         let same : slotAt w j ≡ slotAt v j = getD-set-other (v .entries) e j new noEntry ne in
         let used : Used v j = ap isVacant (sym same) ∙ u in
@@ -89,84 +81,58 @@ module _ (C : Cipher) (law : Lawful C) (v : Volume) (s : Sound v) where
         dir = ap (λ (x : Entry). nodeIn is (x .parent .0)) here ∙ there
 
   create-since : (p : InodeNumber) (kind : ℕ) (n x : Bytes) → ByteList n → createCheck C v p kind n x ≡ Fine → Leaves (create p kind n x)
-  unfolding effect createCheck freeEntry namedBy naming named
+  unfolding effect namedBy naming named
   create-since p kind n x bytes h =
-      let fine = passed _ _ h in
-      pass _ EINVAL _ (fine .1) λ h₂ k₂.
-      let dir = passed _ _ k₂ in
-      pass _ ENOKEY _ (dir .1) λ h₄ k₄.
-      pass _ EEXIST _ k₄ λ h₅ k₅.
-      pass _ ENOTUNIQ _ k₅ λ h₆ k₆.
-      pass _ ENOSPC _ k₆ λ h₇ k₇.
-      pass _ ENOSPC _ k₇ λ h₈ k₈.
-      stored-since _ (freeEntry v) p (num (freeInode v)) n (search-room isVacant (v .entries) noEntry entrySlots (s .entry-slots) h₈) (fine .0) bytes h₄
-      (other (p .0) (is-directory v p (dir .0)))
+      let c = create-passed C v p kind n x h in
+      stored-since _ (freeEntry v) p (num (freeInode v)) n (omega (arith, c .entry-room, s .entry-slots)) (c .name) bytes (c .key) (other (p .0) (c .directory))
       (λ j u. other (slotAt v j .parent .0) (s .parents j u))
     where
       other : (j : ℕ) → nodeAt v j .kind ≡ 1 → nodeIn (set (v .inodes) (freeInode v) (childOf (inodeAt v p) kind x)) j ≡ nodeAt v j
       other j k = free-kept v (childOf (inodeAt v p) kind x) j (one≢zero k)
 
   link-since : (i p : InodeNumber) (n : Bytes) → ByteList n → linkCheck C v i p n ≡ Fine → Leaves (link i p n)
-  unfolding effect linkCheck freeEntry namedBy naming named
+  unfolding effect namedBy naming named
   link-since i p n bytes h =
-      let fine = passed _ _ h in
-      pass _ ENOENT _ (fine .1) λ h₂ k₂.
-      let dir = passed _ _ k₂ in
-      pass _ EPERM _ (dir .1) λ h₄ k₄.
-      pass _ ENOKEY _ k₄ λ h₅ k₅.
-      pass _ policyRefusal _ k₅ λ h₆ k₆.
-      pass _ EEXIST _ k₆ λ h₇ k₇.
-      pass _ ENOSPC _ k₇ λ h₈ k₈.
-      stored-since (v .inodes) (freeEntry v) p i n (search-room isVacant (v .entries) noEntry entrySlots (s .entry-slots) h₈) (fine .0) bytes h₅ refl (λ j u. refl)
+      let c = link-passed C v i p n h in
+      stored-since (v .inodes) (freeEntry v) p i n (omega (arith, c .entry-room, s .entry-slots)) (c .name) bytes (c .key) refl (λ j u. refl)
 
   rename-since : (e : EntryNumber) (p : InodeNumber) (n : Bytes) → ByteList n → renameCheck C v e p n ≡ Fine → Leaves (rename e p n)
-  unfolding effect renameCheck namedBy naming named
+  unfolding effect namedBy naming named
   rename-since e p n bytes h =
-      let fine = passed _ _ h in
-      pass _ ENOENT _ (fine .1) λ h₂ k₂.
-      let dir = passed _ _ k₂ in
-      pass _ ENOKEY _ (dir .1) λ h₄ k₄.
-      pass _ ENOKEY _ k₄ λ h₅ k₅.
-      stored-since (v .inodes) (e .0) p (entryAt v e .inode) n (used-range (v .entries) (e .0) h₂) (fine .0) bytes h₅ refl (λ j u. refl)
+      let c = rename-passed C v e p n h in
+      stored-since (v .inodes) (e .0) p (entryAt v e .inode) n (used-range (v .entries) (e .0) (c .entry)) (c .name) bytes (c .key) refl (λ j u. refl)
 
   -- ---- names and directories stay
 
   setPolicy-since : (i : InodeNumber) (p x : Bytes) → setPolicyCheck v i p x ≡ Fine → Leaves (setPolicy i p x)
-  unfolding effect setPolicyCheck namedBy naming named
+  unfolding effect namedBy naming named
   setPolicy-since i p x h =
-      pass _ ENOENT _ h λ h₁ k₁.
-      let read = passed (policyCheck p) _ k₁ in
-      pass _ EEXIST _ (read .1) λ h₃ k₃.
-      pass _ EPERM _ k₃ λ h₄ k₄.
-      pass _ ENOTDIR _ k₄ λ h₅ k₅.
-      pass _ ENOTEMPTY _ k₅ λ h₆ k₆.
+      let c = set-policy-passed v i p x h in
       by-cond (λ (w : Volume). (j : ℕ) → Used w j → Since C v w none j) (inodeAt v i .encrypted) _ _
       (λ t j u. stayed refl u refl refl)
       (λ t j u.
-      stayed refl u refl (getD-set-other (v .inodes) (i .0) (slotAt v j .parent .0) _ noInode (none-in v (s .entry-slots) i (and-known (ap not t) h₆) j u)))
+      stayed refl u refl (getD-set-other (v .inodes) (i .0) (slotAt v j .parent .0) _ noInode (none-in v (s .entry-slots) i (c .first t .empty) j u)))
 
   exchange-since : (a b : EntryNumber) → exchangeCheck v a b ≡ Fine → Leaves (exchange a b)
-  unfolding effect exchangeCheck namedBy naming named
+  unfolding effect namedBy naming named
   exchange-since a b h j u =
-      pass _ ENOENT _ h λ h₁ k₁.
-      pass _ ENOENT _ k₁ λ h₂ k₂.
-      let q = look v (sound-inv v s) (a .0) (b .0) h₁ h₂ j in
+      let c = exchange-passed v a b h in
+      let q = look v (sound-inv v s) (a .0) (b .0) (c .one) (c .other) j in
       stayed refl (ap isVacant (sym q) ∙ u) (ap nameOf q) (ap (λ (x : Entry). inodeAt v (x .parent)) q)
 
   remove-since : (e : EntryNumber) → removeCheck v e ≡ Fine → Leaves (remove e)
-  unfolding effect removeCheck withoutUnheld namedBy naming named
+  unfolding effect withoutUnheld namedBy naming named
   remove-since e h j u =
-      pass _ ENOENT _ h λ h₁ k₁.
-      pass _ ENOTEMPTY _ k₁ λ h₂ k₂.
+      let c = remove-passed v e h in
       let gone = entryAt v e .inode in
-      let q = left-same v (sound-inv v s) (e .0) h₁ h₂ j (left-other v (sound-inv v s) (e .0) h₁ h₂ j u) in
+      let q = left-same v (sound-inv v s) (e .0) (c .entry) (c .empty) j (left-other v (sound-inv v s) (e .0) (c .entry) (c .empty) j u) in
       let used : Used v j = ap isVacant (sym q) ∙ u in
       stayed refl used (ap nameOf q)
       (by-cond (λ (is : List Inode). nodeIn is (getD (set (v .entries) (e .0) noEntry) j noEntry .parent .0) ≡ dirOf v j) (isHeld _ gone) _ _
       (λ t. ap (λ (x : Entry). inodeAt v (x .parent)) q)
       (λ t.
       ap (λ (x : Entry). nodeIn (set (v .inodes) (gone .0) noInode) (x .parent .0)) q
-      ∙ getD-set-other (v .inodes) (gone .0) (slotAt v j .parent .0) noInode noInode (none-in v (s .entry-slots) gone h₂ j used)))
+      ∙ getD-set-other (v .inodes) (gone .0) (slotAt v j .parent .0) noInode noInode (none-in v (s .entry-slots) gone (c .empty) j used)))
 
   since : (r : Request) → Typed r → check C v r ≡ Fine → Leaves r
   unfolding check effect namedBy naming named

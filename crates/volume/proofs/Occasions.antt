@@ -10,7 +10,7 @@ use Rattle.policy.specs.Policies.{isPair, isValid, samePolicy, isMasterKeySize,
 use Rattle.fscrypt.specs.Names.{isDotName, isBadName, nameCheck, rounded, paddedLength, padded, encrypted, beforeNul, isAllNul, paddingCheck, readPadded}
 use Rattle.fscrypt.specs.Encoded.{letter, letters, encoded}
 use Rattle.volume.specs.Volume.{inodeSlots, entrySlots, fresh}
-use Rattle.volume.specs.Request.{Request, addKey, removeKey, setPolicy, getPolicy, create, link, rename, exchange, remove, find, show, seal, unseal, Answer, refused, done, created, at, policyIs, shown}
+use Rattle.volume.specs.Request.{Request, addKey, removeKey, setPolicy, getPolicy, create, link, rename, exchange, remove, find, show, seal, unseal, Answer, refused, done, created, at}
 use Rattle.volume.specs.Lookup.{keySlotOf, freeKeySlot, keyOf, keyPresent, lacksKey, freeInode, bearsNonce, nonceHolder, freeEntry, entryNamed, firstChild, firstLink, parentOf, climbFrom, isUnderItself}
 use Rattle.volume.specs.DirectoryNames.{derivedKey, nameKey, stored, readName, shownName, isUnreadable, formIn}
 use Rattle.volume.specs.Checks.{directoryCheck, isPolicyRefused, isBadKind, isBadKeyLength, isNonceNeeded, addKeyCheck, removeKeyCheck, setPolicyCheck, getPolicyCheck, removeCheck, exchangeCheck, blockCheck, createCheck, linkCheck, renameCheck, findCheck, showCheck}

@@ -42,9 +42,6 @@ abbrev numbered : Checked → ℕ
 numbered (Refused e) = number e
 numbered Fine = 0
 
-refused-number : (m n : ℕ) → refused m ≡ refused n → m ≡ n
-refused-number m n e = cc
-
 -- the answer is the policy refusal exactly when D, of a request with this lent buffer, this outcome where its check is fine, and this check
 record Exactly (v : Volume) (b : Bytes) (o : Outcome) (D : Type 0) (k : Checked) : Type 0 where
   gives : (settle v b k o) .answer ≡ refused (number policyRefusal) → D
@@ -67,7 +64,7 @@ module _ {v : Volume} {b : Bytes} {o : Outcome} {D : Type 0} where
 
   never : {k : Checked} → o .answer ≢ refused (number policyRefusal) → (D → ⊥) → Other k → Exactly v b o D k
   unfolding settle
-  never na nd (other-number e ne) = record { gives = λ q. absurd (ne (refused-number (number e) (number policyRefusal) q)); only = λ d. absurd (nd d) }
+  never na nd (other-number e ne) = record { gives = λ q. absurd (ne (cc)); only = λ d. absurd (nd d) }
   never na nd passes = record { gives = λ q. absurd (na q); only = λ d. absurd (nd d) }
 
 -- a line before the policy's passed, where the answer is the policy refusal
@@ -80,13 +77,13 @@ module _ (v : Volume) (b : Bytes) (o : Outcome) where
   peel-fine (Refused e) next w h = absurd (go (Refused e) w refl)
     where
       go : (k : Checked) → Other k → k ≡ Refused e → ⊥
-      go k (other-number f ne) q = ne (ap numbered q ∙ refused-number (number e) (number policyRefusal) h)
+      go k (other-number f ne) q = let z : number e ≡ number policyRefusal = cc in ne (ap numbered q ∙ z)
       go k passes q = let z : _≡_ {A = ℕ} 0 1 = cc in absurd (omega arith)
   peel-fine Fine next w h = (refl, h)
 
   peel : (c : Bool) (e : Errno) (next : Checked) → number e ≢ number policyRefusal → Refuses (_>>_ (c ⇒ e) next) → (c ≡ false) × Refuses next
   unfolding _>>_ _⇒_ settle
-  peel true e next ne h = absurd (ne (refused-number (number e) (number policyRefusal) h))
+  peel true e next ne h = absurd (ne (cc))
   peel false e next ne h = (refl, h)
 
   peel-known : (c : Bool) (e : Errno) (next : Checked) → c ≡ false → Refuses (_>>_ (c ⇒ e) next) → Refuses next

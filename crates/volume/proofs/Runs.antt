@@ -1,6 +1,6 @@
 -- The two runs of demand 3, proved for all thirteen requests and for any lawful cipher. Each list by itself is compared with its identity run, that of the same
 -- list with zeros for keys; the two lists have one identity run, since they agree but for their keys. Assumes nothing.
-use Prim.Native.Nat.{ℕ, zero, suc}
+use Prim.Native.Nat.{ℕ, suc}
 use mathlib.Core.Path.{_≡_, refl, sym, _∙_, ap, ap₂, subst, subst₂}
 use mathlib.Core.Logic.{_≢_, _⊎_, inl, inr}
 use mathlib.Core.Bool.{Bool, true, false, cond, not, true≢false, false≢true}
@@ -12,6 +12,7 @@ use lib.Dec.{T, eqb, lit<}
 use Rattle.lists.specs.Bytes.{Bytes, ByteList, same, zeros, laidOver}
 use Rattle.lists.proofs.Tests.{same-eq, same-self, if-true, if-false}
 use Rattle.lists.proofs.Tables.{all-set}
+use Rattle.lists.proofs.Slots.{all-same}
 use Rattle.errno.specs.Refusals.{number}
 use Rattle.errno.specs.declared.Errno.the-variants.{EUCLEAN}
 use Rattle.errno.specs.declared.Checked.{Checked}
@@ -148,11 +149,6 @@ module _ {A B D : Type 0} where
   map-map f h k [] d e = refl
   map-map f h k (x ∷ xs) d e = ap₂ _∷_ (e 0) (map-map f h k xs d (λ i. e (suc i)))
 
-getD-all : {A : Type 0} (n i : ℕ) (d : A) → getD (replicate n d) i d ≡ d
-getD-all zero i d = refl
-getD-all (suc n) zero d = refl
-getD-all (suc n) (suc i) d = getD-all n i d
-
 module _ (S : Setting) where
   abbrev AllFit : List Request → Type 0
   AllFit [] = Unit {0}
@@ -232,10 +228,10 @@ module _ (S : Setting) where
   unfolding fresh
   fresh-ok =
       record {
-        keys-ok = λ i u. absurd (true≢false (sym (ap isFreeKey (getD-all keySlots i noKey)) ∙ u));
+        keys-ok = λ i u. absurd (true≢false (sym (ap isFreeKey (all-same keySlots i noKey)) ∙ u));
         inodes-ok = all-set (λ j y. InodeOk S y) (replicate inodeSlots noInode) noInode 0 (plainInode 1) (λ j u. absurd (false≢true u))
-            (λ j ne u. absurd (false≢true (sym (ap (λ (y : Inode). y .encrypted) (getD-all inodeSlots j noInode)) ∙ u))) (λ u. absurd (false≢true u));
-        entries-ok = λ i u. absurd (true≢false (sym (ap isVacant (getD-all entrySlots i noEntry)) ∙ u));
+            (λ j ne u. absurd (false≢true (sym (ap (λ (y : Inode). y .encrypted) (all-same inodeSlots j noInode)) ∙ u))) (λ u. absurd (false≢true u));
+        entries-ok = λ i u. absurd (true≢false (sym (ap isVacant (all-same entrySlots i noEntry)) ∙ u));
         sized = length-replicate entrySlots noEntry;
       }
 

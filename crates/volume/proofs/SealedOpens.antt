@@ -11,25 +11,23 @@ use lib.Dec.{eqb, ltb}
 use lib.Seq.{getD-set-same, take-append-seam}
 use borrow.Author.Tests.{le-ltb}
 use Rattle.lists.specs.Bytes.{Bytes, ByteList}
-use Rattle.lists.proofs.Tests.{not-false, and-known, if-true, if-false, eqb-other}
-use Rattle.lists.proofs.ByteStrings.{take-bytes}
-use Rattle.lists.proofs.Slots.{by-test, by-cond, search-room}
+use Rattle.lists.proofs.Tests.{if-true, if-false, eqb-other}
+use Rattle.lists.proofs.Slots.{by-test, by-cond}
 use Rattle.errno.specs.Refusals.{_⇒_, _>>_, isFine}
-use Rattle.errno.specs.declared.Errno.the-variants.{ENODATA, ENOENT, EINVAL, ENOKEY, EPERM, EEXIST, ENOTUNIQ, ENOSPC, ERANGE, EUCLEAN}
+use Rattle.errno.specs.declared.Errno.the-variants.{ENOENT, ERANGE, EUCLEAN}
 use Rattle.errno.specs.declared.Checked.{Checked}
-use Rattle.errno.specs.declared.Checked.the-variants.{Fine, Refused}
-use Rattle.errno.proofs.Chains.{passed}
+use Rattle.errno.specs.declared.Checked.the-variants.{Fine}
 use Rattle.policy.specs.Policies.{isMasterKeySize, nameKeySize}
 use Rattle.fscrypt.specs.Cipher.{Cipher, Lawful}
 use Rattle.fscrypt.specs.Names.{nameCheck, readPadded, nameBytes, packed}
 use Rattle.fscrypt.specs.Encoded.{encoded}
 use Rattle.fscrypt.specs.declared.NameRead.{NameRead}
 use Rattle.fscrypt.proofs.Padding.{read-stored, nameBytes-packed}
-use Rattle.volume.specs.Volume.{entrySlots, noInode, noEntry, keyBytes, nameOf, entrySlot}
-use Rattle.volume.specs.Request.{Request, create, link, rename, show, seal, unseal, Answer, refused, done, created, at, shown, Outcome, outcome, Typed}
-use Rattle.volume.specs.Lookup.{keySlotOf, keyOf, masterKey, descriptorOf, keyPresent, lacksKey, inodeAt, freeInode, entryAt, isVacant, freeEntry}
+use Rattle.volume.specs.Volume.{noInode, noEntry, keyBytes, nameOf, entrySlot}
+use Rattle.volume.specs.Request.{Request, create, link, rename, show, seal, unseal, refused, done, created, at, shown, Outcome, outcome, Typed}
+use Rattle.volume.specs.Lookup.{keySlotOf, keyOf, keyPresent, lacksKey, inodeAt, freeInode, entryAt, isVacant, freeEntry}
 use Rattle.volume.specs.DirectoryNames.{derivedKey, nameKey, stored, readName, shownName, isUnreadable, formIn}
-use Rattle.volume.specs.Checks.{policyRefusal, blockCheck, showCheck, createCheck, linkCheck, renameCheck}
+use Rattle.volume.specs.Checks.{blockCheck, showCheck}
 use Rattle.volume.specs.Step.{lent, check, effect, settle, step, childOf}
 use Rattle.volume.specs.Sound.{Sound, dirOf}
 use Rattle.volume.specs.Bytewise.{Bytewise}
@@ -46,17 +44,15 @@ use Rattle.volume.specs.declared.Form.the-variants.{Plain, Decrypted, En
 use Rattle.volume.proofs.Kept.{done-by, was-fine, was-done}
 use Rattle.volume.proofs.SoundCore.{slot-name}
 use Rattle.volume.proofs.SoundClimb.{num}
-use Rattle.volume.proofs.SoundInvariant.{pass, is-directory, one≢zero, used-range, name-ok}
+use Rattle.volume.proofs.SoundInvariant.{one≢zero, used-range, name-ok}
+use Rattle.volume.proofs.Passed.{key-present, create-passed, link-passed, rename-passed, block-passed}
 use Rattle.volume.proofs.SoundCreate.{free-kept}
 use Rattle.volume.proofs.ContextsStay.{context-stays}
 use Rattle.volume.proofs.Bytewise.{derived-bytes, name-key-bytes, bytewise-kept}
 
--- what a show answers is no refusal, and speaks of one entry
+-- what a show answers is no refusal
 pub not-refused : (s : ShownEntry) (m : ℕ) → refused m ≢ shown s
 not-refused s m q = let z : _≡_ {A = ℕ} 0 1 = cc in absurd (omega arith)
-
-pub shown-one : {s t : ShownEntry} → shown s ≡ shown t → s ≡ t
-shown-one q = cc
 
 -- ---- what is read of a volume by the key of an inode
 
@@ -130,10 +126,6 @@ module _ (C : Cipher) (law : Lawful C) where
     abbrev flags : ℕ
     flags = dir .context .policy .flags
 
-    is-present : dir .encrypted ≡ true → keyPresent v dir ≡ true
-    unfolding lacksKey
-    is-present e = not-false (and-known e held)
-
     reads : dir .encrypted ≡ true → readName C v dir (stored C v dir n) ≡ record { checked = Fine; name = packed n }
     unfolding readName stored
     reads e =
@@ -155,7 +147,7 @@ module _ (C : Cipher) (law : Lawful C) where
     unfolding shownName stored
     shown-name e =
         by-test (dir .encrypted)
-        (λ t. if-true _ _ t ∙ if-true _ _ (is-present t) ∙ ap (λ (r : NameRead). nameBytes (r .name)) (reads t) ∙ nameBytes-packed n)
+        (λ t. if-true _ _ t ∙ if-true _ _ (key-present v dir t held) ∙ ap (λ (r : NameRead). nameBytes (r .name)) (reads t) ∙ nameBytes-packed n)
         (λ t. if-false _ _ t ∙ if-false _ _ t)
 
     abbrev isEncoded : Form → Bool
@@ -170,7 +162,7 @@ module _ (C : Cipher) (law : Lawful C) where
         shape : isEncoded (cond (dir .encrypted) (cond (keyPresent v dir) Decrypted Encoded) Plain) ≡ false
         shape =
             by-cond (λ (f : Form). isEncoded f ≡ false) (dir .encrypted) _ _
-            (λ t. ap (λ (b : Bool). isEncoded (cond b Decrypted Encoded)) (is-present t)) (λ t. refl)
+            (λ t. ap (λ (b : Bool). isEncoded (cond b Decrypted Encoded)) (key-present v dir t held)) (λ t. refl)
 
     pub shows : (e : EntryNumber) → isVacant (entryAt v e) ≡ false → inodeAt v (entryAt v e .parent) ≡ dir → nameOf (entryAt v e) ≡ stored C v dir n → ShowsAs C v e n
     unfolding step lent check effect showCheck _>>_ _⇒_ settle
@@ -200,7 +192,7 @@ module _ (C : Cipher) (law : Lawful C) where
     unfolding stored nameKey derivedKey keyOf keySlotOf
     stored-same dir n = refl
 
-    held-same : (dir : Inode) → lacksKey after dir ≡ lacksKey v dir
+    pub held-same : (dir : Inode) → lacksKey after dir ≡ lacksKey v dir
     unfolding lacksKey keyPresent keyOf keySlotOf
     held-same dir = refl
 
@@ -217,75 +209,49 @@ module _ (C : Cipher) (law : Lawful C) where
 
   created-shows : (v : Volume) → Bytewise v → Sound v → (p : InodeNumber) (kind : ℕ) (n x : Bytes) → Typed (create p kind n x) → (i : InodeNumber) (e : EntryNumber)
       → (step C v (create p kind n x)) .answer ≡ created i e → ShowsAs C ((step C v (create p kind n x)) .volume) e n
-  unfolding check effect createCheck freeEntry
+  unfolding check effect
   created-shows v w s p kind n x t i e h =
       let r : Request = create p kind n x in
       let na : (m : ℕ) → refused m ≢ created i e = λ m q. let z : _≡_ {A = ℕ} 0 1 = cc in absurd (omega arith) in
       let eff : step C v r ≡ effect C v r = was-done C v r (created i e) na h in
-      let named = passed _ _ (was-fine C v r (created i e) na h) in
-      pass _ EINVAL _ (named .1) λ h₂ k₂.
-      let dir = passed _ _ k₂ in
-      pass _ ENOKEY _ (dir .1) λ h₄ k₄.
-      pass _ EEXIST _ k₄ λ h₅ k₅.
-      pass _ ENOTUNIQ _ k₅ λ h₆ k₆.
-      pass _ ENOSPC _ k₆ λ h₇ k₇.
-      pass _ ENOSPC _ k₇ λ h₈ k₈.
-      let room = search-room isVacant (v .entries) noEntry entrySlots (s .entry-slots) h₈ in
+      let c = create-passed C v p kind n x (was-fine C v r (created i e) na h) in
       let new = entrySlot p (num (freeInode v)) (stored C v (inodeAt v p) n) in
-      let q : _≡_ {A = EntryNumber} (record { 0 = freeEntry v }) e = entry-of (ap (λ (o : Outcome). o .answer) (sym eff) ∙ h) in
+      let q : _≡_ {A = EntryNumber} (record { 0 = freeEntry v }) e = cc (ap (λ (o : Outcome). o .answer) (sym eff) ∙ h) in
       let w′ = subst (λ (o : Outcome). Bytewise (o .volume)) eff (bytewise-kept C law v w r t) in
       subst (λ (o : Outcome). ShowsAs C (o .volume) e n) (sym eff)
       (subst (λ (f : EntryNumber). ShowsAs C ((effect C v r) .volume) f n) q
-      (shows-new v _ _ w′ (record { 0 = freeEntry v }) p (num (freeInode v)) n (t .0) (named .0) h₄
-      (free-kept v (childOf (inodeAt v p) kind x) (p .0) (one≢zero (is-directory v p (dir .0))))
-      (getD-set-same (v .entries) (freeEntry v) new noEntry room)))
-    where
-      entry-of : {j i : InodeNumber} {f e : EntryNumber} → created j f ≡ created i e → f ≡ e
-      entry-of q = cc
+      (shows-new v _ _ w′ (record { 0 = freeEntry v }) p (num (freeInode v)) n (t .0) (c .name) (c .key)
+      (free-kept v (childOf (inodeAt v p) kind x) (p .0) (one≢zero (c .directory)))
+      (getD-set-same (v .entries) (freeEntry v) new noEntry (omega (arith, c .entry-room, s .entry-slots)))))
 
   linked-shows : (v : Volume) → Bytewise v → Sound v → (i p : InodeNumber) (n : Bytes) → Typed (link i p n) → (e : EntryNumber)
       → (step C v (link i p n)) .answer ≡ at e → ShowsAs C ((step C v (link i p n)) .volume) e n
-  unfolding check effect linkCheck freeEntry
+  unfolding check effect
   linked-shows v w s i p n t e h =
       let r : Request = link i p n in
       let na : (m : ℕ) → refused m ≢ at e = λ m q. let z : _≡_ {A = ℕ} 0 1 = cc in absurd (omega arith) in
       let eff : step C v r ≡ effect C v r = was-done C v r (at e) na h in
-      let named = passed _ _ (was-fine C v r (at e) na h) in
-      pass _ ENOENT _ (named .1) λ h₂ k₂.
-      let dir = passed _ _ k₂ in
-      pass _ EPERM _ (dir .1) λ h₄ k₄.
-      pass _ ENOKEY _ k₄ λ h₅ k₅.
-      pass _ policyRefusal _ k₅ λ h₆ k₆.
-      pass _ EEXIST _ k₆ λ h₇ k₇.
-      pass _ ENOSPC _ k₇ λ h₈ k₈.
-      let room = search-room isVacant (v .entries) noEntry entrySlots (s .entry-slots) h₈ in
+      let c = link-passed C v i p n (was-fine C v r (at e) na h) in
       let new = entrySlot p i (stored C v (inodeAt v p) n) in
-      let q : _≡_ {A = EntryNumber} (record { 0 = freeEntry v }) e = entry-of (ap (λ (o : Outcome). o .answer) (sym eff) ∙ h) in
+      let q : _≡_ {A = EntryNumber} (record { 0 = freeEntry v }) e = cc (ap (λ (o : Outcome). o .answer) (sym eff) ∙ h) in
       let w′ = subst (λ (o : Outcome). Bytewise (o .volume)) eff (bytewise-kept C law v w r t) in
       subst (λ (o : Outcome). ShowsAs C (o .volume) e n) (sym eff)
       (subst (λ (f : EntryNumber). ShowsAs C ((effect C v r) .volume) f n) q
-      (shows-new v _ _ w′ (record { 0 = freeEntry v }) p i n t (named .0) h₅ refl (getD-set-same (v .entries) (freeEntry v) new noEntry room)))
-    where
-      entry-of : {f e : EntryNumber} → at f ≡ at e → f ≡ e
-      entry-of q = cc
+      (shows-new v _ _ w′ (record { 0 = freeEntry v }) p i n t (c .name) (c .key) refl (getD-set-same (v .entries) (freeEntry v) new noEntry (omega (arith, c .entry-room, s .entry-slots)))))
 
   renamed-shows : (v : Volume) → Bytewise v → (e : EntryNumber) (p : InodeNumber) (n : Bytes) → Typed (rename e p n) → (step C v (rename e p n)) .answer ≡ done
       → ShowsAs C ((step C v (rename e p n)) .volume) e n
-  unfolding check effect renameCheck
+  unfolding check effect
   renamed-shows v w e p n t h =
       let r : Request = rename e p n in
       let na : (m : ℕ) → refused m ≢ done = λ m q. let z : _≡_ {A = ℕ} 0 1 = cc in absurd (omega arith) in
       let eff : step C v r ≡ effect C v r = was-done C v r done na h in
-      let named = passed _ _ (was-fine C v r done na h) in
-      pass _ ENOENT _ (named .1) λ h₂ k₂.
-      let dir = passed _ _ k₂ in
-      pass _ ENOKEY _ (dir .1) λ h₄ k₄.
-      pass _ ENOKEY _ k₄ λ h₅ k₅.
+      let c = rename-passed C v e p n (was-fine C v r done na h) in
       let new = entrySlot p (entryAt v e .inode) (stored C v (inodeAt v p) n) in
       let w′ = subst (λ (o : Outcome). Bytewise (o .volume)) eff (bytewise-kept C law v w r t) in
       subst (λ (o : Outcome). ShowsAs C (o .volume) e n) (sym eff)
-      (shows-new v _ _ w′ e p (entryAt v e .inode) n t (named .0) h₅ refl
-      (getD-set-same (v .entries) (e .0) new noEntry (used-range (v .entries) (e .0) h₂)))
+      (shows-new v _ _ w′ e p (entryAt v e .inode) n t (c .name) (c .key) refl
+      (getD-set-same (v .entries) (e .0) new noEntry (used-range (v .entries) (e .0) (c .entry))))
 
 -- ---- names: on a later volume
 
@@ -318,9 +284,9 @@ module _ (C : Cipher) (v w : Volume) (e : EntryNumber) (qx : SameName v w e) (qd
       let dw : step C w (show e b) ≡ effect C w (show e b) = done-by C w (show e b) (check-later (length b) ∙ fine) in
       let nv = shownName C v dir e (nameOf (entryAt v e)) in
       let nw = shownName C w (dirOf w (e .0)) e (nameOf (entryAt w e)) in
-      let told = shown-one (ap (λ (o : Outcome). o .answer) (sym dv) ∙ r .1) in
-      let s : formIn v dir ≡ r .0 .form = ap (λ (x : ShownEntry). x .form) told in
-      let l : length nv ≡ r .0 .len = ap (λ (x : ShownEntry). x .len) told in
+      let told = ap (λ (o : Outcome). o .answer) (sym dv) ∙ r .1 in
+      let s : formIn v dir ≡ r .0 .form = cc told in
+      let l : length nv ≡ r .0 .len = cc told in
       let name : nv ≡ n =
       sym (take-append-seam nv (drop (length nv) b)) ∙ ap (λ (m : ℕ). take m (nv ++ drop (length nv) b)) l
       ∙ ap (λ (o : Outcome). take (r .0 .len) (o .buffer)) (sym dv) ∙ r .3 in (
@@ -333,14 +299,10 @@ module _ (C : Cipher) (v w : Volume) (e : EntryNumber) (qx : SameName v w e) (qd
 -- ---- blocks: through runs
 
 sealed-encrypted : (C : Cipher) (v : Volume) (i : InodeNumber) (n : ℕ) (b : Bytes) → (step C v (seal i n b)) .answer ≡ done → (inodeAt v i) .encrypted ≡ true
-unfolding check blockCheck
+unfolding check
 sealed-encrypted C v i n b h =
     let na : (m : ℕ) → refused m ≢ done = λ m q. let z : _≡_ {A = ℕ} 0 1 = cc in absurd (omega arith) in
-    pass _ EINVAL _ (was-fine C v (seal i n b) done na h) λ h₁ k₁.
-    pass _ ENOENT _ k₁ λ h₂ k₂.
-    pass _ EINVAL _ k₂ λ h₃ k₃.
-    pass _ ENODATA _ k₃ λ h₄ k₄.
-    not-false h₄
+    block-passed v i (length b) (was-fine C v (seal i n b) done na h) .has-context
 
 pub sealed-opens : (C : Cipher) → Lawful C → SealedOpens C
 sealed-opens C law = record {

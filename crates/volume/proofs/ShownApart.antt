@@ -1,34 +1,27 @@
 -- Names shown without the key keep source document 001's promise, on every sound volume whose bytes are bytes and on every volume of every run. Two entries of
 -- one directory have different numbers and different stored names, so that what is shown of them differs. Assumes nothing.
-use Prim.Native.Nat.{ℕ, _-_, _<_}
+use Prim.Native.Nat.{ℕ, _<_}
 use native.Mathlib.Omega.{arith}
 use mathlib.Core.Path.{_≡_, refl, sym, _∙_, ap, ap₂, subst}
-use mathlib.Core.Logic.{_≢_, _⊎_, inl, inr}
+use mathlib.Core.Logic.{_≢_}
 use mathlib.Core.Bool.{Bool, true, false, cond}
-use mathlib.Core.List.{List, [], _∷_, List·Memᴰ, List·Memᴰ·not-nil, List·Memᴰ·cases-cons, List·Memᴰ·head, List·Memᴰ·tail}
-use lib.ListN.{length, getD, set, take}
+use mathlib.Core.List.{List, List·Memᴰ}
+use lib.ListN.{length, getD, take}
 use lib.Seq.{take-append-seam}
-use Rattle.lists.specs.Bytes.{Bytes, ByteList, zeros}
-use Rattle.lists.proofs.ByteStrings.{append-bytes, take-bytes, zeros-bytes}
-use Rattle.lists.proofs.Tables.{all-set}
-use Rattle.lists.proofs.Slots.{by-eq, by-cond, all-same}
-use Rattle.errno.specs.declared.Errno.the-variants.{ERANGE, ENOENT}
-use Rattle.errno.specs.declared.Checked.{Checked}
-use Rattle.errno.specs.declared.Checked.the-variants.{Fine, Refused}
-use Rattle.policy.specs.Policies.{nameKeySize}
+use Rattle.lists.specs.Bytes.{Bytes, ByteList}
+use Rattle.lists.proofs.ByteStrings.{take-bytes}
+use Rattle.lists.proofs.Slots.{by-eq}
 use Rattle.fscrypt.specs.Cipher.{Cipher, Lawful}
 use Rattle.fscrypt.specs.Names.{encrypted, nameBytes}
 use Rattle.fscrypt.specs.Encoded.{encoded}
-use Rattle.fscrypt.proofs.Padding.{padded-bytes}
 use Rattle.fscrypt.proofs.Shown.{encoded-length-low, encoded-length-high, encoded-fair}
 use Rattle.fscrypt.proofs.Distinct.{encoded-apart}
-use Rattle.volume.specs.Volume.{entrySlots, noEntry, entrySlot, nameOf, fresh}
-use Rattle.volume.specs.Request.{Request, addKey, removeKey, setPolicy, getPolicy, create, link, rename, exchange, remove, find, show, seal, unseal, shown, Outcome, Typed, AllTyped}
-use Rattle.volume.specs.Lookup.{keyPresent, inodeAt, entryAt, freeInode, freeEntry}
-use Rattle.volume.specs.DirectoryNames.{derivedKey, nameKey, stored, readName, shownName, formIn}
-use Rattle.volume.specs.Checks.{showCheck}
-use Rattle.volume.specs.Step.{withInode, lent, check, effect, settle, step}
-use Rattle.volume.specs.Run.{Moment, momentOf, runFrom, run}
+use Rattle.volume.specs.Volume.{nameOf}
+use Rattle.volume.specs.Request.{Request, show, shown, Outcome, AllTyped}
+use Rattle.volume.specs.Lookup.{keyPresent, inodeAt, entryAt}
+use Rattle.volume.specs.DirectoryNames.{readName, shownName, formIn}
+use Rattle.volume.specs.Step.{lent, check, effect, step}
+use Rattle.volume.specs.Run.{Moment, run}
 use Rattle.volume.specs.Sound.{Sound, Used, slotAt}
 use Rattle.volume.specs.Bytewise.{Bytewise}
 use Rattle.volume.specs.ShownApart.{ShownKeyless, KeepsPromise}
@@ -39,11 +32,12 @@ use Rattle.volume.specs.declared.Entry.{Entry}
 use Rattle.volume.specs.declared.Volume.{Volume}
 use Rattle.volume.specs.declared.ShownEntry.{ShownEntry}
 use Rattle.volume.specs.declared.Form.the-variants.{Plain, Decrypted, Encoded}
-use Rattle.volume.proofs.SoundInvariant.{pass, used-range}
+use Rattle.volume.proofs.SoundInvariant.{used-range}
+use Rattle.volume.proofs.Passed.{show-passed}
 use Rattle.volume.proofs.Soundness.{sound}
 use Rattle.volume.proofs.Bytewise.{bytewise}
 use Rattle.volume.proofs.Kept.{was-fine, was-done}
-use Rattle.volume.proofs.SealedOpens.{not-refused, shown-one}
+use Rattle.volume.proofs.SealedOpens.{not-refused}
 
 -- ---- what show answers without the key
 
@@ -68,18 +62,15 @@ module _ (C : Cipher) (v : Volume) where
     told = record { parent = x .parent; inode = x .inode; kind = inodeAt v (x .inode) .kind; form = formIn v (inodeAt v (x .parent)); len = length name }
 
     was-used : Used v (e .0)
-    unfolding check showCheck
-    was-used =
-        pass _ ERANGE _ (was-fine C v (show e (h .lent)) (shown (h .entry)) (not-refused (h .entry)) (h .answered)) λ h₁ k₁.
-        pass _ ENOENT _ k₁ λ h₂ k₂.
-        h₂
+    unfolding check
+    was-used = show-passed C v e _ (was-fine C v (show e (h .lent)) (shown (h .entry)) (not-refused (h .entry)) (h .answered)) .entry
 
     done : step C v (show e (h .lent)) ≡ effect C v (show e (h .lent))
     done = was-done C v (show e (h .lent)) (shown (h .entry)) (not-refused (h .entry)) (h .answered)
 
     was-told : h .entry ≡ told
     unfolding effect
-    was-told = shown-one (sym (h .answered) ∙ ap (λ (o : Outcome). o .answer) done)
+    was-told = cc (sym (h .answered) ∙ ap (λ (o : Outcome). o .answer) done)
 
     is-parent : x .parent ≡ p
     is-parent = sym (ap (λ (s : ShownEntry). s .parent) was-told) ∙ h .parent

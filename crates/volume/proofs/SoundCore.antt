@@ -1,6 +1,6 @@
 -- The rules of slots by themselves and in pairs, as the proof of soundness keeps them, and what a store of an entry, an inode or a key does to them.
 -- A rule of one slot is kept by a store of what has it, and a rule of two by a store of what clashes with no other slot. Assumes nothing.
-use Prim.Native.Nat.{ℕ, _+_, _-_, _≤_, _<_}
+use Prim.Native.Nat.{ℕ, _-_, _≤_, _<_}
 use native.Mathlib.Omega.{arith}
 use mathlib.Core.Path.{_≡_, refl, sym, _∙_, ap, ap₂, subst}
 use mathlib.Core.Logic.{_≢_}
@@ -18,7 +18,7 @@ use Rattle.policy.specs.Policies.{isValid, noContext}
 use Rattle.fscrypt.specs.Names.{nameCheck, paddedLength}
 use Rattle.fscrypt.proofs.Padding.{length-zeros}
 use Rattle.volume.specs.Volume.{keySlots, inodeSlots, entrySlots, noKey, noInode, noEntry, plainInode, keyBytes, nameOf, entrySlot}
-use Rattle.volume.specs.Lookup.{isFreeKey, isVacant, isNamed, isTaken, entryNamed}
+use Rattle.volume.specs.Lookup.{isFreeKey, isVacant, isNamed, isTaken, entryNamed, isIn, firstChild, hasEntries}
 use Rattle.volume.specs.Checks.{isBadKeyLength}
 use Rattle.volume.specs.Step.{withKeys, withInodes, withEntries}
 use Rattle.volume.specs.Sound.{MayHold, keyAt, nodeAt, slotAt}
@@ -153,6 +153,14 @@ no-inode-ok = record {
 
 pub slot-name : (p i : InodeNumber) (s : Bytes) → nameOf (entrySlot p i s) ≡ s
 slot-name p i s = take-append-seam s (zeros (255 - length s))
+
+-- none stands in an inode that has no entries
+pub none-in : (v : Volume) → length (v .entries) ≡ entrySlots → (i : InodeNumber) → hasEntries v i ≡ false → (e : ℕ) → InUse (slotAt v e)
+    → slotAt v e .parent .0 ≢ i .0
+unfolding firstChild
+none-in v size i empty e u q =
+    let t : isIn i (slotAt v e) ≡ true = ap₂ _&&_ (ap not u) (eq-eqb (slotAt v e .parent .0) (i .0) q) in
+    true≢false (sym t ∙ search-none (isIn i) (v .entries) noEntry entrySlots size refl empty e)
 
 -- a name that no entry of the directory has
 not-taken : (v : Volume) → length (v .entries) ≡ entrySlots → (p : InodeNumber) (s : Bytes) → isTaken v p s ≡ false → (i : InodeNumber) (j : ℕ)

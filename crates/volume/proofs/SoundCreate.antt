@@ -1,27 +1,23 @@
 -- Create keeps the invariant: the inode is stored in a free slot, that no entry speaks of, and then the entry in a free one, so that all that was rooted is
 -- so still and the new inode is rooted by its parent. Assumes nothing.
-use Prim.Native.Nat.{ℕ, suc, _≤_, _<_}
+use Prim.Native.Nat.{ℕ, suc}
+use native.Mathlib.Omega.{arith}
 use mathlib.Core.Path.{_≡_, refl, sym, _∙_, ap, subst, subst₂}
 use mathlib.Core.Logic.{_≢_, inl}
-use mathlib.Core.Bool.{false, _&&_}
 use mathlib.Core.List.{List}
 use lib.ListN.{length, getD, set}
 use lib.Seq.{getD-set-same, getD-set-other}
-use lib.Dec.{eqb, ltb}
-use borrow.Author.Tests.{ltb-false}
 use Rattle.lists.specs.Bytes.{Bytes}
-use Rattle.lists.proofs.Tests.{or-left, or-right, and-known, eqb-true}
+use Rattle.lists.proofs.Tests.{eqb-true}
 use Rattle.lists.proofs.Tables.{firstAt-passes}
-use Rattle.lists.proofs.Slots.{by-eq, search-room}
-use Rattle.errno.specs.declared.Errno.the-variants.{EINVAL, ENOKEY, EEXIST, ENOTUNIQ, ENOSPC}
+use Rattle.lists.proofs.Slots.{by-eq}
 use Rattle.errno.specs.declared.Checked.the-variants.{Fine}
-use Rattle.errno.proofs.Chains.{passed}
 use Rattle.fscrypt.specs.Cipher.{Cipher, Lawful}
-use Rattle.volume.specs.Volume.{inodeSlots, entrySlots, noInode, noEntry, entrySlot}
+use Rattle.volume.specs.Volume.{noInode, noEntry, entrySlot}
 use Rattle.volume.specs.Request.{create}
-use Rattle.volume.specs.Lookup.{inodeAt, isFree, freeInode, isBorne, isVacant, freeEntry, entryNamed, isTaken}
+use Rattle.volume.specs.Lookup.{inodeAt, isFree, freeInode, isVacant, freeEntry, entryNamed}
 use Rattle.volume.specs.DirectoryNames.{stored}
-use Rattle.volume.specs.Checks.{isBadKind, isNonceNeeded, createCheck}
+use Rattle.volume.specs.Checks.{createCheck}
 use Rattle.volume.specs.Step.{withInodes, withEntries, childOf, effect}
 use Rattle.volume.specs.Sound.{MayHold, nodeAt, slotAt}
 use Rattle.volume.specs.declared.InodeNumber.{InodeNumber}
@@ -30,8 +26,9 @@ use Rattle.volume.specs.declared.Entry.{Entry}
 use Rattle.volume.specs.declared.Volume.{Volume}
 use Rattle.volume.proofs.SoundCore.{Core, NameOk, EntryOk, InUse, nodeIn, slot-used, store-core, put-core}
 use Rattle.volume.proofs.SoundClimb.{num, Any, Up, Rooted, Tree, up-again}
-use Rattle.volume.proofs.SoundInvariant.{Held, Inv, pass, is-directory, one≢zero, not-eqb, free-same, still-held}
+use Rattle.volume.proofs.SoundInvariant.{Held, Inv, one≢zero, free-same, still-held}
 use Rattle.volume.proofs.SoundInvariant.{entry-same, name-ok, slot-ok, nonce-free, child-kind, child-ok, child-policy, child-nonce}
+use Rattle.volume.proofs.Passed.{CreatePassed, create-passed}
 use Rattle.volume.proofs.SoundLink.{vacant}
 
 -- the slot that a new inode takes is free
@@ -63,46 +60,45 @@ module _ (C : Cipher) (law : Lawful C) (v : Volume) (ok : Inv v) where
     abbrev es′ : List Entry
     es′ = set (v .entries) e (entrySlot p (num i) s)
 
-    makes : NameOk (inodeAt v p) s → kind ≢ 0 → kind ≤ 4 → (inodeAt v p) .kind ≡ 1 → isTaken v p s ≡ false → (isNonceNeeded (inodeAt v p) kind && isBorne v x) ≡ false
-        → i < length (v .inodes) → e < length (v .entries) → Inv (record { keys = v .keys; inodes = is′; entries = es′ })
+    makes : CreatePassed C v p kind n x → Inv (record { keys = v .keys; inodes = is′; entries = es′ })
     unfolding entryNamed
-    makes name nz small kd free-name fresh ir er = record { core = core₂; held = held₂; tree = tree₂ }
+    makes c = record { core = core₂; held = held₂; tree = tree₂ }
       where
         iz : i ≢ 0
         iz z = one≢zero (ap (λ (m : Inode). m .kind) (ok .core .nodes-ok .root-is)) (ap (λ (m : ℕ). nodeAt v m .kind) (sym z) ∙ free-kind v)
 
         there : nodeIn is′ i ≡ newcomer
-        there = getD-set-same (v .inodes) i newcomer noInode ir
+        there = getD-set-same (v .inodes) i newcomer noInode (omega (arith, c .inode-room, ok .core .nodes-ok .inode-slots))
 
         other : (j : ℕ) → nodeAt v j .kind ≢ 0 → nodeIn is′ j ≡ nodeAt v j
         other = free-kept v newcomer
 
         dir-same : nodeIn is′ (p .0) ≡ inodeAt v p
-        dir-same = other (p .0) (one≢zero kd)
+        dir-same = other (p .0) (one≢zero (c .directory))
 
         core₁ : Core (withInodes v is′)
         core₁ =
-            put-core v (ok .core) i newcomer iz (child-ok (inodeAt v p) kind x (ok .core .nodes-ok .inodes-ok (p .0)) nz small xl)
+            put-core v (ok .core) i newcomer iz (child-ok (inodeAt v p) kind x (ok .core .nodes-ok .inodes-ok (p .0)) (c .kind .0) (c .kind .1) xl)
             (λ j u.
             let w = ok .core .joined .entries-ok j u in
             entry-same (v .inodes) is′ (slotAt v j) w (other (slotAt v j .parent .0) (one≢zero (w .directory))) (other (slotAt v j .inode .0) (w .holds)))
             (λ j u k. ap (λ (m : Inode). m .kind) (sym (other (slotAt v j .inode .0) (ok .core .joined .entries-ok j u .holds))) ∙ k)
-            (λ j r. let c = child-nonce (inodeAt v p) kind x (r .1) in nonce-free v (ok .core) x (and-known (c .0) fresh) newcomer (c .1) j r)
+            (λ j r. let q = child-nonce (inodeAt v p) kind x (r .1) in nonce-free v (ok .core) x (c .nonce (q .0)) newcomer (q .1) j r)
 
         new-ok : EntryOk is′ (entrySlot p (num i) s)
         new-ok =
-            slot-ok is′ p (num i) s (ap (λ (m : Inode). m .kind) dir-same ∙ kd)
-            (λ z. nz (sym (ap (λ (m : Inode). m .kind) there ∙ child-kind (inodeAt v p) kind x) ∙ z)) iz
+            slot-ok is′ p (num i) s (ap (λ (m : Inode). m .kind) dir-same ∙ c .directory)
+            (λ z. c .kind .0 (sym (ap (λ (m : Inode). m .kind) there ∙ child-kind (inodeAt v p) kind x) ∙ z)) iz
             (subst₂ MayHold (sym dir-same) (sym there) (child-policy (inodeAt v p) kind x))
-            (subst (λ (m : Inode). NameOk m s) (sym dir-same) name)
+            (subst (λ (m : Inode). NameOk m s) (sym dir-same) (name-ok C law v (inodeAt v p) n (c .name)))
 
         core₂ : Core (withEntries (withInodes v is′) es′)
         core₂ =
-            store-core (withInodes v is′) core₁ e p (num i) s new-ok free-name
+            store-core (withInodes v is′) core₁ e p (num i) s new-ok (c .free-name)
             (λ j ne r. ok .core .joined .entries-ok j (r .0) .holds (ap (λ (m : ℕ). nodeAt v m .kind) (r .2) ∙ free-kind v))
 
         here : getD es′ e noEntry ≡ entrySlot p (num i) s
-        here = getD-set-same (v .entries) e (entrySlot p (num i) s) noEntry er
+        here = getD-set-same (v .entries) e (entrySlot p (num i) s) noEntry (omega (arith, c .entry-room, ok .core .joined .entry-slots))
 
         here-used : InUse (getD es′ e noEntry)
         here-used = ap isVacant here ∙ slot-used is′ (entrySlot p (num i) s) new-ok
@@ -125,7 +121,7 @@ module _ (C : Cipher) (law : Lawful C) (v : Volume) (ok : Inv v) where
         tree₂ j k =
             by-eq j i
             (λ q.
-            let r = climbs (p .0) kd in (
+            let r = climbs (p .0) (c .directory) in (
               suc (r .0),
               record {
                 entry = e;
@@ -138,16 +134,5 @@ module _ (C : Cipher) (law : Lawful C) (v : Volume) (ok : Inv v) where
             (λ ne. climbs j (ap (λ (m : Inode). m .kind) (sym (getD-set-other (v .inodes) i j newcomer noInode ne)) ∙ k))
 
     pub create-keeps : createCheck C v p kind n x ≡ Fine → Inv ((effect C v (create p kind n x)) .volume)
-    unfolding effect createCheck isBadKind freeInode freeEntry
-    create-keeps h =
-        let named = passed _ _ h in
-        pass _ EINVAL _ (named .1) λ h₂ k₂.
-        let dir = passed _ _ k₂ in
-        pass _ ENOKEY _ (dir .1) λ h₄ k₄.
-        pass _ EEXIST _ k₄ λ h₅ k₅.
-        pass _ ENOTUNIQ _ k₅ λ h₆ k₆.
-        pass _ ENOSPC _ k₆ λ h₇ k₇.
-        pass _ ENOSPC _ k₇ λ h₈ k₈.
-        makes (name-ok C law v (inodeAt v p) n (named .0)) (not-eqb (or-left (eqb kind 0) (ltb 4 kind) h₂)) (ltb-false 4 kind (or-right (eqb kind 0) (ltb 4 kind) h₂))
-        (is-directory v p (dir .0)) h₅ h₆ (search-room isFree (v .inodes) noInode inodeSlots (ok .core .nodes-ok .inode-slots) h₇)
-        (search-room isVacant (v .entries) noEntry entrySlots (ok .core .joined .entry-slots) h₈)
+    unfolding effect
+    create-keeps h = makes (create-passed C v p kind n x h)

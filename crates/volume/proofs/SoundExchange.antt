@@ -10,22 +10,21 @@ use lib.Seq.{getD-set-same, getD-set-other}
 use lib.Dec.{eqb}
 use Rattle.lists.proofs.Tests.{eqb-true, eqb-self, eqb-other}
 use Rattle.lists.proofs.Slots.{by-eq, by-test}
-use Rattle.errno.specs.declared.Errno.the-variants.{ENOENT, ENOKEY, EINVAL}
 use Rattle.errno.specs.declared.Checked.the-variants.{Fine}
 use Rattle.fscrypt.specs.Cipher.{Cipher}
 use Rattle.volume.specs.Volume.{noEntry}
 use Rattle.volume.specs.Request.{exchange}
 use Rattle.volume.specs.Lookup.{isVacant, isUnderItself}
-use Rattle.volume.specs.Checks.{policyRefusal, exchangeCheck}
+use Rattle.volume.specs.Checks.{exchangeCheck}
 use Rattle.volume.specs.Step.{withEntries, withInode, effect}
 use Rattle.volume.specs.Sound.{MayHold, slotAt, dirOf, nodeOf}
 use Rattle.volume.specs.declared.EntryNumber.{EntryNumber}
 use Rattle.volume.specs.declared.Entry.{Entry}
 use Rattle.volume.specs.declared.Volume.{Volume}
-use Rattle.volume.proofs.SoundPolicy.{may-hold}
 use Rattle.volume.proofs.SoundCore.{EntryOk, InUse, SameName, SameNode}
 use Rattle.volume.proofs.SoundClimb.{Any, Up, Rooted, up-moves, up-again}
-use Rattle.volume.proofs.SoundInvariant.{Inv, pass, used-range, entry-other, NotOf, clear-both}
+use Rattle.volume.proofs.SoundInvariant.{Inv, used-range, entry-other, NotOf, clear-both}
+use Rattle.volume.proofs.Passed.{exchange-passed}
 
 module _ (v : Volume) (ok : Inv v) where
   -- once the entry a holds the inode of b, and all but a and b are as they were, that inode is rooted
@@ -173,14 +172,7 @@ module _ (v : Volume) (ok : Inv v) where
 
 module _ (C : Cipher) (v : Volume) (ok : Inv v) where
   pub exchange-keeps : (a b : EntryNumber) → exchangeCheck v a b ≡ Fine → Inv ((effect C v (exchange a b)) .volume)
-  unfolding effect exchangeCheck
+  unfolding effect
   exchange-keeps a b h =
-      pass _ ENOENT _ h λ h₁ k₁.
-      pass _ ENOENT _ k₁ λ h₂ k₂.
-      pass _ ENOKEY _ k₂ λ h₃ k₃.
-      pass _ ENOKEY _ k₃ λ h₄ k₄.
-      pass _ policyRefusal _ k₄ λ h₅ k₅.
-      pass _ policyRefusal _ k₅ λ h₆ k₆.
-      pass _ EINVAL _ k₆ λ h₇ k₇.
-      pass _ EINVAL _ k₇ λ h₈ k₈.
-      exchanges v ok (a .0) (b .0) h₁ h₂ (may-hold _ _ h₅) (may-hold _ _ h₆) h₈ h₇
+      let c = exchange-passed v a b h in
+      exchanges v ok (a .0) (b .0) (c .one) (c .other) (c .one-policy) (c .other-policy) (c .other-clear) (c .one-clear)

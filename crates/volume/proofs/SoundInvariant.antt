@@ -1,24 +1,19 @@
 -- The invariant that soundness is proved by, and what it says of lookups, names, children, nonces and climbs. It is the rules of slots, that every inode is
 -- held, and that every directory is rooted; the last two are apart, for they fail between the two stores of create and remove. Assumes nothing.
-use Prim.Native.Nat.{ℕ, zero, suc, _-_, _≤_, _<_}
+use Prim.Native.Nat.{ℕ, zero, suc, _≤_, _<_}
 use native.Mathlib.Omega.{arith}
 use mathlib.Core.Path.{_≡_, refl, sym, _∙_, ap, ap₂, subst}
 use mathlib.Core.Logic.{_≢_}
-use mathlib.Core.Bool.{Bool, true, false, _&&_, true≢false, false≢true}
+use mathlib.Core.Bool.{true, false, _&&_, true≢false, false≢true}
 use mathlib.Core.List.{List}
 use lib.ListN.{length, getD, set}
 use lib.Seq.{getD-set-other}
 use lib.Dec.{eqb, leb}
 use borrow.Author.Tests.{leb-true, le-leb}
 use Rattle.lists.specs.Bytes.{Bytes, same}
-use Rattle.lists.proofs.Tests.{not-false, and-left, and-right, and-known, eqb-true, eqb-self, same-of-eq}
+use Rattle.lists.proofs.Tests.{and-left, and-right, and-known, eqb-self, same-of-eq}
 use Rattle.lists.proofs.Slots.{by-test, by-cond, within, search-none}
-use Rattle.errno.specs.Refusals.{_⇒_, _>>_}
-use Rattle.errno.specs.declared.Errno.{Errno}
-use Rattle.errno.specs.declared.Errno.the-variants.{ENOENT, ENOTDIR}
-use Rattle.errno.specs.declared.Checked.{Checked}
 use Rattle.errno.specs.declared.Checked.the-variants.{Fine}
-use Rattle.errno.proofs.Chains.{passed-test}
 use Rattle.policy.proofs.Codec.{samePolicy-refl}
 use Rattle.fscrypt.specs.Cipher.{Cipher, Lawful}
 use Rattle.fscrypt.specs.Names.{nameCheck, paddedLength, padded, encrypted}
@@ -26,7 +21,7 @@ use Rattle.fscrypt.proofs.Padding.{pad-fits, length-padded, plain-name}
 use Rattle.volume.specs.Volume.{inodeSlots, noInode, noEntry, nameOf, entrySlot}
 use Rattle.volume.specs.Lookup.{inodeAt, isDirectory, bearsNonce, nonceHolder, isBorne, isVacant, isUnderItself}
 use Rattle.volume.specs.DirectoryNames.{nameKey, stored}
-use Rattle.volume.specs.Checks.{directoryCheck, isNonceNeeded}
+use Rattle.volume.specs.Checks.{isNonceNeeded}
 use Rattle.volume.specs.Step.{withInode, childOf}
 use Rattle.volume.specs.Sound.{MayHold, nodeAt, slotAt}
 use Rattle.volume.specs.declared.InodeNumber.{InodeNumber}
@@ -46,17 +41,6 @@ pub record Inv (v : Volume) : Type 0 where
   pub core : Core v
   pub held : Held (v .inodes) (v .entries)
   pub tree : Tree (v .inodes) (v .entries)
-
--- what follows a check is only asked once it has passed
-pub pass : (t : Bool) (e : Errno) (next : Checked) {G : Type 0} → _>>_ (t ⇒ e) next ≡ Fine → (t ≡ false → next ≡ Fine → G) → G
-pass t e next h f = let p = passed-test t e next h in f (p .0) (p .1)
-
-pub is-directory : (v : Volume) (p : InodeNumber) → directoryCheck v p ≡ Fine → (inodeAt v p) .kind ≡ 1
-unfolding directoryCheck
-is-directory v p h =
-    pass _ ENOENT _ h λ h₁ k₁.
-    pass _ ENOTDIR _ k₁ λ h₂ k₂.
-    eqb-true (not-false h₂)
 
 -- ---- lookups
 

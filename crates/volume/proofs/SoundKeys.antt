@@ -2,7 +2,6 @@
 -- Assumes nothing.
 use Prim.Native.Nat.{_-_}
 use mathlib.Core.Path.{_≡_, refl, sym, _∙_, ap, ap₂}
-use mathlib.Core.Logic.{_≢_}
 use mathlib.Core.Bool.{true, false, not, _&&_, true≢false}
 use mathlib.Core.List.{_++_}
 use lib.ListN.{length}
@@ -10,7 +9,6 @@ use lib.Seq.{take-append-seam}
 use Rattle.lists.specs.Bytes.{Bytes, zeros}
 use Rattle.lists.proofs.Tests.{eqb-true, same-of-eq}
 use Rattle.lists.proofs.Slots.{search-none}
-use Rattle.errno.specs.declared.Errno.the-variants.{EINVAL, EEXIST}
 use Rattle.errno.specs.declared.Checked.the-variants.{Fine}
 use Rattle.fscrypt.specs.Cipher.{Cipher}
 use Rattle.volume.specs.Volume.{keySlots, noKey, keySlot}
@@ -21,7 +19,8 @@ use Rattle.volume.specs.Step.{effect}
 use Rattle.volume.specs.Sound.{keyAt}
 use Rattle.volume.specs.declared.Volume.{Volume}
 use Rattle.volume.proofs.SoundCore.{KeyOk, no-key-ok, keys-core}
-use Rattle.volume.proofs.SoundInvariant.{Inv, pass}
+use Rattle.volume.proofs.SoundInvariant.{Inv}
+use Rattle.volume.proofs.Passed.{add-key-passed}
 
 key-ok : (d k : Bytes) → length d ≡ 8 → isBadKeyLength (length k) ≡ false → KeyOk (keySlot d k)
 unfolding isBadKeyLength
@@ -35,15 +34,14 @@ key-ok d k dl h = record {
 
 module _ (C : Cipher) (v : Volume) (ok : Inv v) where
   pub addKey-keeps : (d k : Bytes) → length d ≡ 8 → addKeyCheck v d (length k) ≡ Fine → Inv ((effect C v (addKey d k)) .volume)
-  unfolding effect addKeyCheck keySlotOf
+  unfolding effect keySlotOf
   addKey-keeps d k dl h =
-      pass _ EINVAL _ h λ h₁ k₁.
-      pass _ EEXIST _ k₁ λ h₂ k₂.
+      let c = add-key-passed v d (length k) h in
       record {
-        core = keys-core v (ok .core) (freeKeySlot v) (keySlot d k) (key-ok d k dl h₁)
+        core = keys-core v (ok .core) (freeKeySlot v) (keySlot d k) (key-ok d k dl (c .size))
             (λ j ne r.
             let t : onKeyring d (keyAt v j) ≡ true = ap₂ _&&_ (ap not (r .0)) (same-of-eq (r .2)) in
-            true≢false (sym t ∙ search-none (onKeyring d) (v .keys) noKey keySlots (ok .core .keyring-ok .key-slots) refl h₂ j));
+            true≢false (sym t ∙ search-none (onKeyring d) (v .keys) noKey keySlots (ok .core .keyring-ok .key-slots) refl (c .descriptor) j));
         held = ok .held;
         tree = ok .tree;
       }

@@ -11,7 +11,6 @@ use borrow.Author.Tests.{not-true, eq-eqb}
 use Rattle.lists.specs.Bytes.{firstAt}
 use Rattle.lists.proofs.Tests.{and-left, and-right, eqb-true}
 use Rattle.lists.proofs.Slots.{by-cond, by-eq, search-hit, search-none}
-use Rattle.errno.specs.declared.Errno.the-variants.{ENOENT, ENOTEMPTY}
 use Rattle.errno.specs.declared.Checked.the-variants.{Fine}
 use Rattle.fscrypt.specs.Cipher.{Cipher}
 use Rattle.volume.specs.Volume.{entrySlots, noInode, noEntry}
@@ -25,10 +24,10 @@ use Rattle.volume.specs.declared.EntryNumber.{EntryNumber}
 use Rattle.volume.specs.declared.Inode.{Inode}
 use Rattle.volume.specs.declared.Entry.{Entry}
 use Rattle.volume.specs.declared.Volume.{Volume}
-use Rattle.volume.proofs.SoundCore.{no-inode-ok, InUse, nodeIn, clear-core, put-core}
+use Rattle.volume.proofs.SoundCore.{no-inode-ok, InUse, nodeIn, none-in, clear-core, put-core}
 use Rattle.volume.proofs.SoundClimb.{Rooted, up-moves, avoid-leaf}
-use Rattle.volume.proofs.SoundInvariant.{Holder, Inv, pass, one≢zero, used-range, kind-range, still-held, entry-same, NotOf}
-use Rattle.volume.proofs.SoundSetPolicy.{none-in}
+use Rattle.volume.proofs.SoundInvariant.{Holder, Inv, one≢zero, used-range, kind-range, still-held, entry-same, NotOf}
+use Rattle.volume.proofs.Passed.{remove-passed}
 
 module _ (v : Volume) (ok : Inv v) (e : ℕ) (u : InUse (slotAt v e)) (empty : hasEntries v (slotAt v e .inode) ≡ false) where
   abbrev gone : InodeNumber
@@ -127,9 +126,9 @@ module _ (v : Volume) (ok : Inv v) (e : ℕ) (u : InUse (slotAt v e)) (empty : h
 
 module _ (C : Cipher) (v : Volume) (ok : Inv v) where
   pub remove-keeps : (e : EntryNumber) → removeCheck v e ≡ Fine → Inv ((effect C v (remove e)) .volume)
-  unfolding effect removeCheck withoutUnheld
+  unfolding effect withoutUnheld
   remove-keeps e h =
-      pass _ ENOENT _ h λ h₁ k₁.
-      pass _ ENOTEMPTY _ k₁ λ h₂ k₂.
+      let c = remove-passed v e h in
       by-cond (λ (is : List Inode). Inv (record { keys = v .keys; inodes = is; entries = set (v .entries) (e .0) noEntry }))
-      (isHeld (set (v .entries) (e .0) noEntry) (entryAt v e .inode)) _ _ (stays v ok (e .0) h₁ h₂) (goes v ok (e .0) h₁ h₂)
+      (isHeld (set (v .entries) (e .0) noEntry) (entryAt v e .inode)) _ _ (stays v ok (e .0) (c .entry) (c .empty))
+      (goes v ok (e .0) (c .entry) (c .empty))

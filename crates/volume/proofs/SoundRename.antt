@@ -3,35 +3,31 @@
 use Prim.Native.Nat.{ℕ, suc}
 use mathlib.Core.Path.{_≡_, sym, _∙_, ap, subst}
 use mathlib.Core.Logic.{_≢_, inl, inr}
-use mathlib.Core.Bool.{false}
 use mathlib.Core.List.{List}
 use lib.ListN.{getD, set}
 use lib.Seq.{getD-set-same, getD-set-other}
 use Rattle.lists.specs.Bytes.{Bytes}
 use Rattle.lists.proofs.Slots.{by-eq}
-use Rattle.errno.specs.declared.Errno.the-variants.{ENOENT, ENOKEY, EINVAL, EEXIST}
 use Rattle.errno.specs.declared.Checked.the-variants.{Fine}
-use Rattle.errno.proofs.Chains.{passed}
 use Rattle.fscrypt.specs.Cipher.{Cipher, Lawful}
-use Rattle.fscrypt.specs.Names.{nameCheck}
 use Rattle.volume.specs.Volume.{noEntry, entrySlot}
 use Rattle.volume.specs.Request.{rename}
-use Rattle.volume.specs.Lookup.{inodeAt, isVacant, isTaken, isUnderItself}
+use Rattle.volume.specs.Lookup.{inodeAt, isVacant}
 use Rattle.volume.specs.DirectoryNames.{stored}
-use Rattle.volume.specs.Checks.{isPolicyRefused, policyRefusal, renameCheck}
+use Rattle.volume.specs.Checks.{renameCheck}
 use Rattle.volume.specs.Step.{withEntries, effect}
 use Rattle.volume.specs.Sound.{slotAt}
 use Rattle.volume.specs.declared.InodeNumber.{InodeNumber}
 use Rattle.volume.specs.declared.EntryNumber.{EntryNumber}
 use Rattle.volume.specs.declared.Entry.{Entry}
 use Rattle.volume.specs.declared.Volume.{Volume}
-use Rattle.volume.proofs.SoundPolicy.{may-hold}
 use Rattle.volume.proofs.SoundCore.{EntryOk, InUse, slot-used, store-core}
 use Rattle.volume.proofs.SoundClimb.{Any, Up, Rooted, up-moves, up-again}
-use Rattle.volume.proofs.SoundInvariant.{Inv, pass, is-directory, still-held, used-range, name-ok, slot-ok, NotOf, clear-of}
+use Rattle.volume.proofs.SoundInvariant.{Inv, still-held, used-range, name-ok, slot-ok, NotOf, clear-of}
+use Rattle.volume.proofs.Passed.{RenamePassed, rename-passed}
 
 module _ (C : Cipher) (law : Lawful C) (v : Volume) (ok : Inv v) where
-  module _ (e : ℕ) (p : InodeNumber) (n : Bytes) (u : InUse (slotAt v e)) (kd : (inodeAt v p) .kind ≡ 1) where
+  module _ (e : ℕ) (p : InodeNumber) (n : Bytes) (c : RenamePassed C v (record { 0 = e }) p n) where
     abbrev i : InodeNumber
     i = slotAt v e .inode
 
@@ -41,9 +37,9 @@ module _ (C : Cipher) (law : Lawful C) (v : Volume) (ok : Inv v) where
     abbrev es′ : List Entry
     es′ = set (v .entries) e (entrySlot p i s)
 
-    moves : nameCheck n ≡ Fine → isPolicyRefused (inodeAt v p) (inodeAt v i) ≡ false → isUnderItself v i p ≡ false → isTaken v p s ≡ false → Inv (withEntries v es′)
-    moves good allowed apart free = record {
-      core = store-core v (ok .core) e p i s new-ok free (λ j ne r. ne (ok .core .joined .nodes j e (r .0, u, r .2, r .3)));
+    moves : Inv (withEntries v es′)
+    moves = record {
+      core = store-core v (ok .core) e p i s new-ok (c .free-name) (λ j ne r. ne (ok .core .joined .nodes j e (r .0, c .entry, r .2, r .3)));
       held = λ j jz k.
           let r = ok .held j jz k in
           by-eq (r .0) e
@@ -57,11 +53,11 @@ module _ (C : Cipher) (law : Lawful C) (v : Volume) (ok : Inv v) where
       where
         new-ok : EntryOk (v .inodes) (entrySlot p i s)
         new-ok =
-            let w = ok .core .joined .entries-ok e u in
-            slot-ok (v .inodes) p i s kd (w .holds) (w .not-root) (may-hold (inodeAt v p) (inodeAt v i) allowed) (name-ok C law v (inodeAt v p) n good)
+            let w = ok .core .joined .entries-ok e (c .entry) in
+            slot-ok (v .inodes) p i s (c .directory) (w .holds) (w .not-root) (c .policy) (name-ok C law v (inodeAt v p) n (c .name))
 
         there : getD es′ e noEntry ≡ entrySlot p i s
-        there = getD-set-same (v .entries) e (entrySlot p i s) noEntry (used-range (v .entries) e u)
+        there = getD-set-same (v .entries) e (entrySlot p i s) noEntry (used-range (v .entries) e (c .entry))
 
         there-used : InUse (getD es′ e noEntry)
         there-used = ap isVacant there ∙ slot-used (v .inodes) (entrySlot p i s) new-ok
@@ -71,7 +67,7 @@ module _ (C : Cipher) (law : Lawful C) (v : Volume) (ok : Inv v) where
 
         rooted : Rooted es′ (i .0)
         rooted =
-            let clear = clear-of v ok i p kd apart in
+            let clear = clear-of v ok i p (c .directory) (c .clear) in
             let above : Up es′ Any (clear .0) (p .0) =
             up-moves (v .entries) es′ (NotOf v ok (i .0)) (λ m ne. other m (λ q. ne (ap (λ (k : ℕ). slotAt v k .inode .0) q))) (clear .0) (p .0) (clear .1) in (
               suc (clear .0),
@@ -85,14 +81,5 @@ module _ (C : Cipher) (law : Lawful C) (v : Volume) (ok : Inv v) where
             )
 
   pub rename-keeps : (e : EntryNumber) (p : InodeNumber) (n : Bytes) → renameCheck C v e p n ≡ Fine → Inv ((effect C v (rename e p n)) .volume)
-  unfolding effect renameCheck
-  rename-keeps e p n h =
-      let named = passed _ _ h in
-      pass _ ENOENT _ (named .1) λ h₂ k₂.
-      let dir = passed _ _ k₂ in
-      pass _ ENOKEY _ (dir .1) λ h₄ k₄.
-      pass _ ENOKEY _ k₄ λ h₅ k₅.
-      pass _ policyRefusal _ k₅ λ h₆ k₆.
-      pass _ EINVAL _ k₆ λ h₇ k₇.
-      pass _ EEXIST _ k₇ λ h₈ k₈.
-      moves (e .0) p n h₂ (is-directory v p (dir .0)) (named .0) h₆ h₇ h₈
+  unfolding effect
+  rename-keeps e p n h = moves (e .0) p n (rename-passed C v e p n h)

@@ -3,22 +3,21 @@
 use Prim.Native.Nat.{ℕ, zero, suc, _-_, _≤_}
 use native.Mathlib.Omega.{arith}
 use mathlib.Core.Path.{_≡_, refl, sym, _∙_, ap, subst}
-use mathlib.Core.Logic.{_≢_, _⊎_, inl, inr}
+use mathlib.Core.Logic.{_≢_}
 use mathlib.Core.Bool.{true, false, true≢false, false≢true}
-use mathlib.Core.List.{List, [], _∷_, _++_, List·Memᴰ, List·Memᴰ·not-nil, List·Memᴰ·cases-cons, List·Memᴰ·head, List·Memᴰ·tail}
+use mathlib.Core.List.{List, _++_, List·Memᴰ}
 use lib.ListN.{length}
 use borrow.Author.Tests.{eq-eqb}
-use Rattle.lists.specs.Bytes.{Bytes, zeros}
+use Rattle.lists.specs.Bytes.{zeros}
 use Rattle.lists.proofs.Tests.{eqb-true, eqb-other}
 use Rattle.lists.proofs.Slots.{by-eq, by-test, all-same}
-use Rattle.errno.specs.declared.Checked.{Checked}
-use Rattle.errno.specs.declared.Checked.the-variants.{Fine, Refused}
+use Rattle.errno.specs.declared.Checked.the-variants.{Fine}
 use Rattle.fscrypt.specs.Cipher.{Cipher, Lawful}
 use Rattle.volume.specs.Volume.{keySlots, inodeSlots, entrySlots, noKey, noInode, noEntry, plainInode, nameOf, fresh}
-use Rattle.volume.specs.Request.{Request, addKey, removeKey, setPolicy, getPolicy, create, link, rename, exchange, remove, find, show, seal, unseal, Outcome, Typed, AllTyped}
+use Rattle.volume.specs.Request.{Request, addKey, removeKey, setPolicy, getPolicy, create, link, rename, exchange, remove, find, show, seal, unseal, Typed, AllTyped}
 use Rattle.volume.specs.Lookup.{isFreeKey, inodeAt, isFree, isVacant, climbFrom}
-use Rattle.volume.specs.Step.{lent, check, effect, settle, step}
-use Rattle.volume.specs.Run.{Moment, momentOf, runFrom, run}
+use Rattle.volume.specs.Step.{check, effect, step}
+use Rattle.volume.specs.Run.{Moment, run}
 use Rattle.volume.specs.Sound.{Sound, Used, BearsPolicy, keyAt, nodeAt, slotAt, dirOf, nodeOf}
 use Rattle.volume.specs.declared.InodeNumber.{InodeNumber}
 use Rattle.volume.specs.declared.Inode.{Inode}

@@ -1,15 +1,13 @@
 -- The starred cases of document 01 hold of the definitions: one statement about the whole table, computed. Assumes nothing.
-use Prim.Native.Nat.{ℕ, suc}
-use mathlib.Core.Path.{_≡_, refl, ap, _∙_}
-use mathlib.Core.Bool.{Bool, not}
-use mathlib.Core.List.{List, [], _∷_}
+use Prim.Native.Nat.{ℕ}
+use mathlib.Core.Path.{_≡_, refl}
+use mathlib.Core.Bool.{not}
+use mathlib.Core.List.{_∷_}
 use lib.ListN.{length}
-use lib.Dec.{eqb}
 use Rattle.lists.specs.Bytes.{Bytes, zeros}
 use Rattle.errno.specs.Refusals.{_⇒_, _>>_}
 use Rattle.errno.specs.declared.Errno.the-variants.{EINVAL}
-use Rattle.errno.specs.declared.Checked.{Checked}
-use Rattle.errno.specs.declared.Checked.the-variants.{Fine, Refused}
+use Rattle.errno.specs.declared.Checked.the-variants.{Fine}
 use Rattle.policy.specs.Policies.{isPair, isValid, policyAt, policyCheck}
 use Rattle.fscrypt.specs.Names.{rounded, paddedLength}
 use Rattle.fscrypt.specs.Encoded.{letter, letters, encoded}

@@ -11,7 +11,7 @@ use lib.Seq.{take-at}
 use lib.Dec.{eqb}
 use borrow.Author.Tests.{not-true}
 use Rattle.lists.specs.Bytes.{Bytes, ByteList, same, firstAt, isEmpty}
-use Rattle.lists.proofs.Tests.{not-false, and-left, and-right, and-cong, and-known, if-true, if-false, eqb-true, eqb-other, same-eq, same-inj}
+use Rattle.lists.proofs.Tests.{not-false, and-left, and-right, and-cong, if-true, if-false, eqb-true, eqb-other, same-eq, same-inj}
 use Rattle.lists.proofs.ByteStrings.{take-bytes}
 use Rattle.lists.proofs.Tables.{firstAt-map, firstAt-ends}
 use Rattle.errno.specs.declared.Checked.the-variants.{Fine}
@@ -34,6 +34,7 @@ use Rattle.volume.specs.declared.Volume.{Volume}
 use Rattle.volume.specs.declared.Form.the-variants.{Plain, Decrypted, Encoded}
 use Rattle.volume.specs.declared.Met.{Met}
 use Rattle.volume.specs.declared.Met.the-variants.{Moved, Root}
+use Rattle.volume.proofs.Passed.{key-present}
 use Rattle.volume.proofs.Twin.{identity, Setting, Alike, test, both-fine, keyFor, encName, encKey, dirIn, encEntry, enc, KeyOk, Storable, EntryOk, Inv}
 
 -- ---- names
@@ -100,10 +101,6 @@ module _ (S : Setting) where
     pub needed-twin : (i : Inode) → lacksKey (enc S v) i ≡ lacksKey v i
     unfolding lacksKey
     needed-twin i = ap (λ (b : Bool). i .encrypted && not b) (present-twin i)
-
-    not-needed : (i : Inode) → i .encrypted ≡ true → lacksKey v i ≡ false → keyPresent v i ≡ true
-    unfolding lacksKey
-    not-needed i e h = not-false (and-known e h)
 
     pub form-twin : (i : Inode) → formIn (enc S v) i ≡ formIn v i
     unfolding formIn
@@ -172,7 +169,7 @@ module _ (S : Setting) where
 
     pub stored-twin : (dir : Inode) (n : Bytes) → lacksKey v dir ≡ false → stored (S .cipher) (enc S v) dir n ≡ encName S dir (stored identity v dir n)
     unfolding stored encrypted
-    stored-twin dir n h = go (dir .encrypted) (λ e. not-needed dir e h)
+    stored-twin dir n h = go (dir .encrypted) (λ e. key-present v dir e h)
       where
         go : (b : Bool) → (b ≡ true → keyPresent v dir ≡ true)
             → cond b (S .cipher .encryptName (nameKey (S .cipher) (enc S v) dir) (padded (dir .context .policy .flags) n)) n

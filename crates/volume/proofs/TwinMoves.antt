@@ -2,12 +2,12 @@
 -- that no entry stands in. Assumes nothing.
 use Prim.Native.Nat.{ℕ}
 use mathlib.Core.Path.{_≡_, refl, sym, _∙_, ap, ap₂, subst}
+use mathlib.Core.Logic.{_≢_}
 use mathlib.Core.Bool.{Bool, true, false, cond, true≢false, false≢true}
 use mathlib.Core.List.{List, [], map}
 use lib.ListN.{getD, set, length-set}
 use lib.Seq.{getD-set-other}
-use lib.Dec.{eqb, ltb}
-use Rattle.lists.proofs.Tests.{eqb-self}
+use lib.Dec.{ltb}
 use Rattle.lists.proofs.Tables.{map-set, all-set}
 use Rattle.volume.specs.Volume.{entrySlots, noInode, noEntry}
 use Rattle.volume.specs.Request.{exchange, remove, done, outcome}
@@ -21,9 +21,10 @@ use Rattle.volume.specs.declared.EntryNumber.{EntryNumber}
 use Rattle.volume.specs.declared.Inode.{Inode}
 use Rattle.volume.specs.declared.Entry.{Entry}
 use Rattle.volume.specs.declared.Volume.{Volume}
+use Rattle.volume.proofs.SoundCore.{none-in}
 use Rattle.volume.proofs.Twin.{Setting, test, both-fine, encKey, dirIn, encEntry, enc, InodeOk, Inv, EntryOk, StepTwin, Same}
 use Rattle.volume.proofs.TwinLookup.{needed-twin, entry-twin, child-twin, link-at-twin, under-twin}
-use Rattle.volume.proofs.TwinStore.{no-child, nonces-set, kept-inv, kept-enc}
+use Rattle.volume.proofs.TwinStore.{nonces-set, kept-inv, kept-enc}
 
 module _ (S : Setting) {g : Names} (v : Volume) (ok : Inv S g v) where
   -- an entry's inode is no part of what holds of it
@@ -122,11 +123,10 @@ module _ (S : Setting) {g : Names} (v : Volume) (ok : Inv S g v) where
       -- no entry that is left stands in the inode that goes
       kept : hasEntries v i ≡ false → (j : ℕ) → isVacant (getD es j noEntry) ≡ false → dirIn is′ (getD es j noEntry) ≡ inodeAt v ((getD es j noEntry) .parent)
       kept h j u =
-          let none-in : (n : ℕ) → isVacant (getD es n noEntry) ≡ false → eqb ((getD es n noEntry) .parent .0) (i .0) ≡ false =
-          all-set (λ n y. isVacant y ≡ false → eqb (y .parent .0) (i .0) ≡ false) (v .entries) noEntry (e .0) noEntry
-          (λ n w. absurd (true≢false w)) (λ n ne. no-child S v ok i h n) (λ w. absurd (true≢false w)) in
-          getD-set-other (v .inodes) (i .0) ((getD es j noEntry) .parent .0) noInode noInode
-          (λ q. false≢true (sym (none-in j u) ∙ ap (λ (m : ℕ). eqb m (i .0)) q ∙ eqb-self (i .0)))
+          let apart : (n : ℕ) → isVacant (getD es n noEntry) ≡ false → (getD es n noEntry) .parent .0 ≢ i .0 =
+          all-set (λ n y. isVacant y ≡ false → y .parent .0 ≢ i .0) (v .entries) noEntry (e .0) noEntry
+          (λ n w. absurd (true≢false w)) (λ n ne. none-in v (ok .sized) i h n) (λ w. absurd (true≢false w)) in
+          getD-set-other (v .inodes) (i .0) ((getD es j noEntry) .parent .0) noInode noInode (apart j u)
 
       go : (c c′ : Bool) → c ≡ c′ → hasEntries v i ≡ false → StepTwin S (remove e) g
           (outcome done [] (record { keys = map (encKey S) (v .keys); inodes = cond c (v .inodes) is′; entries = set (map f (v .entries)) (e .0) noEntry }))

@@ -1,14 +1,13 @@
 -- The two runs: set policy, and the requests that store a name: create, link and rename. Whether a name is taken is the same in both runs, for names under one key
 -- are equal exactly where their ciphertexts are. Assumes nothing.
 use Prim.Native.Nat.{ℕ}
-use mathlib.Core.Path.{_≡_, refl, sym, _∙_, ap}
+use mathlib.Core.Path.{_≡_, refl, _∙_, ap}
 use mathlib.Core.Bool.{Bool, true, false, cond, not, _&&_, false≢true}
 use mathlib.Core.List.{List, [], map}
 use lib.ListN.{getD, set}
 use lib.Seq.{getD-set-other}
-use lib.Dec.{eqb, leb, ltb}
+use lib.Dec.{leb, ltb}
 use Rattle.lists.specs.Bytes.{Bytes, ByteList, firstAt}
-use Rattle.lists.proofs.Tests.{eqb-self}
 use Rattle.policy.specs.Policies.{policyCheck, readPolicy}
 use Rattle.volume.specs.Volume.{entrySlots, noInode, plainInode, encryptedInode, entrySlot}
 use Rattle.volume.specs.Request.{setPolicy, create, link, rename, done, created, at, outcome}
@@ -26,9 +25,10 @@ use Rattle.volume.specs.declared.Entry.{Entry}
 use Rattle.volume.specs.declared.Volume.{Volume}
 use Rattle.volume.proofs.SoundInvariant.{one≢zero}
 use Rattle.volume.proofs.SoundCreate.{free-kept}
+use Rattle.volume.proofs.SoundCore.{none-in}
 use Rattle.volume.proofs.Twin.{Setting, Alike, test, part, both-fine, encKey, dirIn, encEntry, enc, InodeOk, Inv, StepTwin, Same}
 use Rattle.volume.proofs.TwinLookup.{needed-twin, entry-twin, free-entry-twin, child-twin, under-twin, entryNamed-twin, name-part, directory-part}
-use Rattle.volume.proofs.TwinStore.{no-child, nonces-set, kept-inv, kept-enc, store-inv, store-enc}
+use Rattle.volume.proofs.TwinStore.{nonces-set, kept-inv, kept-enc, store-inv, store-enc}
 
 module _ (S : Setting) {g : Names} (v : Volume) (ok : Inv S g v) where
   policy-part : (p : Bytes) → Alike (Unit {0}) (policyCheck p) (policyCheck p)
@@ -59,9 +59,7 @@ module _ (S : Setting) {g : Names} (v : Volume) (ok : Inv S g v) where
 
       kept : hasEntries v i ≡ false → (j : ℕ) → Used v j
           → dirIn is′ (slotAt v j) ≡ dirOf v j
-      kept h j u =
-          let a = no-child S v ok i h j u in
-          getD-set-other (v .inodes) (i .0) ((slotAt v j) .parent .0) _ noInode (λ e. false≢true (sym a ∙ ap (λ (k : ℕ). eqb k (i .0)) e ∙ eqb-self (i .0)))
+      kept h j u = getD-set-other (v .inodes) (i .0) ((slotAt v j) .parent .0) _ noInode (none-in v (ok .sized) i h j u)
 
       go : (c : Bool) → (not c && hasEntries v i) ≡ false
           → StepTwin S (setPolicy i p x) g (outcome done [] (cond c (enc S v) (withInodes (enc S v) is′))) (outcome done [] (cond c v (withInodes v is′)))

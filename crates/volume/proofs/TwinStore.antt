@@ -1,23 +1,20 @@
 -- The two runs: what a volume comes to when inodes change and none that has entries does, and when besides a name is stored in an entry. Both keep what holds of
 -- the identity run's volume, and both are done to the other run's volume as well. Assumes nothing.
-use Prim.Native.Nat.{ℕ, _-_, _≤_}
-use native.Mathlib.Omega.{arith}
+use Prim.Native.Nat.{ℕ, _-_}
 use mathlib.Core.Path.{_≡_, refl, sym, _∙_, ap, ap₂, subst}
 use mathlib.Core.Logic.{_≢_}
-use mathlib.Core.Bool.{Bool, true, false, cond, not, true≢false, false≢true}
+use mathlib.Core.Bool.{Bool, true, false, cond, true≢false, false≢true}
 use mathlib.Core.List.{List, _++_, map}
 use mathlib.Core.Option.{some, none}
 use lib.ListN.{length, getD, set, take, drop, length-set}
 use lib.Seq.{take-append-seam, drop-append-seam}
-use lib.Dec.{eqb}
-use borrow.Author.Tests.{ltb-false}
-use Rattle.lists.specs.Bytes.{Bytes, ByteList, zeros, firstAt}
-use Rattle.lists.proofs.Tests.{and-known, if-false, eqb-self, eqb-other}
-use Rattle.lists.proofs.Tables.{map-set, map-agree, all-set, firstAt-none}
+use Rattle.lists.specs.Bytes.{Bytes, ByteList, zeros}
+use Rattle.lists.proofs.Tests.{if-false, eqb-self, eqb-other}
+use Rattle.lists.proofs.Tables.{map-set, map-agree, all-set}
 use Rattle.errno.specs.declared.Checked.the-variants.{Fine}
 use Rattle.fscrypt.specs.Names.{nameCheck}
-use Rattle.volume.specs.Volume.{entrySlots, noInode, noEntry, nameOf, entrySlot}
-use Rattle.volume.specs.Lookup.{lacksKey, inodeAt, isVacant, isIn, firstChild, hasEntries}
+use Rattle.volume.specs.Volume.{noInode, noEntry, nameOf, entrySlot}
+use Rattle.volume.specs.Lookup.{lacksKey, inodeAt, isVacant}
 use Rattle.volume.specs.DirectoryNames.{stored}
 use Rattle.volume.specs.Step.{withInodes}
 use Rattle.volume.specs.Sound.{slotAt, Used, dirOf}
@@ -27,6 +24,7 @@ use Rattle.volume.specs.declared.EntryNumber.{EntryNumber}
 use Rattle.volume.specs.declared.Inode.{Inode}
 use Rattle.volume.specs.declared.Entry.{Entry}
 use Rattle.volume.specs.declared.Volume.{Volume}
+use Rattle.volume.proofs.SoundCore.{slot-name}
 use Rattle.volume.proofs.Twin.{identity, Setting, encName, encKey, dirIn, encEntry, enc, InodeOk, Storable, EntryOk, Inv}
 use Rattle.volume.proofs.TwinLookup.{enc-length, stored-twin, stored-is, stored-storable, stored-some}
 
@@ -42,13 +40,6 @@ old-name : (g : Names) (e : EntryNumber) (n : Bytes) (j : ℕ) → j ≢ e .0 �
 old-name g e n j ne = ap (λ (b : Bool). later (cond b (some n) none) (g j)) (eqb-other j (e .0) ne)
 
 module _ (S : Setting) {g : Names} (v : Volume) (ok : Inv S g v) where
-  -- no entry stands in an inode that has none
-  pub no-child : (i : InodeNumber) → hasEntries v i ≡ false → (j : ℕ) → Used v j → eqb ((slotAt v j) .parent .0) (i .0) ≡ false
-  unfolding firstChild
-  no-child i h j u =
-      let w : entrySlots ≤ firstAt (isIn i) (v .entries) = ltb-false (firstAt (isIn i) (v .entries)) entrySlots h in
-      and-known (ap not u) (firstAt-none (isIn i) (v .entries) noEntry refl (omega (arith, ok .sized)) j)
-
   -- one inode changes, for one whose nonce is bytes
   pub nonces-set : (i : ℕ) (x : Inode) → InodeOk S x → (j : ℕ) → InodeOk S (getD (set (v .inodes) i x) j noInode)
   nonces-set i x h = all-set (λ j y. InodeOk S y) (v .inodes) noInode i x (λ j u. absurd (false≢true u)) (λ j ne. ok .inodes-ok j) h
@@ -99,19 +90,17 @@ module _ (S : Setting) {g : Names} (v : Volume) (ok : Inv S g v) where
       abbrev slot : Entry
       slot = entrySlot p i (stored identity v (inodeAt v p) n)
 
-      slot-name : nameOf slot ≡ stored identity v (inodeAt v p) n
-      slot-name = take-append-seam (stored identity v (inodeAt v p) n) (zeros (255 - length (stored identity v (inodeAt v p) n)))
-
       slot-ok : EntryOk S (withName g e n) (inodeAt v p) (e .0) slot
       slot-ok =
+          let q = slot-name p i (stored identity v (inodeAt v p) n) in
           record {
             name = n;
             is-given = new-name g e n;
             is-plain = good;
             in-directory = kind;
-            is-sized = ap length slot-name;
-            is-stored = slot-name ∙ stored-is S v ok (inodeAt v p) n;
-            storable = λ c. subst (Storable S (inodeAt v p)) (sym slot-name) (stored-storable S v ok p n nb c);
+            is-sized = ap length q;
+            is-stored = q ∙ stored-is S v ok (inodeAt v p) n;
+            storable = λ c. subst (Storable S (inodeAt v p)) (sym q) (stored-storable S v ok p n nb c);
           }
 
       pub store-inv : Inv S (withName g e n) (record { keys = v .keys; inodes = is′; entries = set (v .entries) (e .0) slot })

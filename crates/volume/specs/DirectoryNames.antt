@@ -1,6 +1,5 @@
 -- Names under a directory's key: as the directory stores them, reads them and shows them. Document 01, "Policy, context, derived key" and "Names and blocks".
 -- Sentences in quotation marks are document 01's, in its words. Assumes nothing.
-use Prim.Native.Nat.{ℕ}
 use mathlib.Core.Bool.{Bool, cond, not, _&&_}
 use lib.ListN.{take}
 use Rattle.lists.specs.Bytes.{Bytes}

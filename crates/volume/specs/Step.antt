@@ -2,7 +2,7 @@
 -- Sentences in quotation marks are document 01's, in its words. Assumes nothing.
 use Prim.Native.Nat.{ℕ}
 use mathlib.Core.Bool.{cond}
-use mathlib.Core.List.{List, [], _∷_}
+use mathlib.Core.List.{List, []}
 use lib.ListN.{length, set}
 use Rattle.lists.specs.Bytes.{Bytes, laidOver}
 use Rattle.errno.specs.Refusals.{number}

@@ -2,7 +2,7 @@
 -- Sentences in quotation marks are document 01's, in its words. Assumes nothing.
 use Prim.Native.Nat.{ℕ, _-_}
 use mathlib.Core.Bool.{true, false}
-use mathlib.Core.List.{[], _∷_, _++_}
+use mathlib.Core.List.{_++_}
 use lib.ListN.{replicate, length, take, set}
 use Rattle.lists.specs.Bytes.{Bytes, zeros}
 use Rattle.policy.specs.Policies.{noContext}

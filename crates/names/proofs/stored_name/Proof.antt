@@ -3,7 +3,8 @@ use mathlib.Core.Path.{_≡_, refl}
 use native.Mathlib.Omega.{arith}
 use lib.ListN.{length}
 use Rattle.lists.proofs.ByteStrings.{count-take}
-use Rattle.names.proofs.Reading.{present, names-key, stored-plain, stored-encrypted}
+use Rattle.volume.proofs.Passed.{key-present}
+use Rattle.names.proofs.Reading.{names-key, stored-plain, stored-encrypted}
 use borrow.Author.Tests.{not-true, not-false}
 use Rattle.fscrypt.specs.Cipher.{fscrypt}
 use borrow.Author.Needs.{needs}
@@ -17,7 +18,7 @@ returns : tie.Need-returns
 returns c = stored-plain fscrypt _ _ _ _ (not-true _ (c .before .if1 .taken)) (c .pack .ensures)
 
 derived-key-requires : tie.Need-derived-key-requires
-derived-key-requires c κs = present _ _ (not-false _ (c .before .before .if1 .left)) (c .before .before .before .before .before .pre .1)
+derived-key-requires c κs = key-present _ _ (not-false _ (c .before .before .if1 .left)) (c .before .before .before .before .before .pre .1)
 
 name-key-size-requires : tie.Need-name-key-size-requires
 name-key-size-requires c κs = search needs

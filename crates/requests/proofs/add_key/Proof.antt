@@ -1,9 +1,9 @@
 -- `add_key`: refused as its check says, or done as its effect says. Assumes nothing.
-use mathlib.Core.Path.{_≡_, sym, _∙_}
+use mathlib.Core.Path.{sym, _∙_}
 use Rattle.fscrypt.specs.Cipher.{fscrypt}
 use Rattle.volume.specs.Step.{lent, check}
-use Rattle.requests.proofs.Settling.{refuses, acts, key-room}
-use denote.Ref.{now}
+use Rattle.volume.proofs.Passed.{add-key-passed}
+use Rattle.requests.proofs.Settling.{refuses, acts, key-fits}
 use borrow.Author.Needs.{needs}
 use Rattle.requests.proofs.add_key.Statement.{statement}
 use Rattle.requests.proofs.add_key.Tie as tie
@@ -18,7 +18,7 @@ enum-told : tie.Need-enum-told
 enum-told c = search needs
 
 add-key-requires : tie.Need-add-key-requires
-add-key-requires c κs = let k = key-room _ _ (now (c .before .before .before .before .args .key)) (sym (c .before .before .add-key-check .ensures) ∙ c .enum-told .given .1) in (k .fits, k .room)
+add-key-requires c κs = let k = add-key-passed _ _ _ (sym (c .before .before .add-key-check .ensures) ∙ c .enum-told .given .1) in (key-fits _ (k .size), k .room)
 
 returns : tie.Need-returns
 unfolding check lent

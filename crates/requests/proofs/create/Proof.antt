@@ -1,8 +1,10 @@
 -- `create`: refused as its check says, or done as its effect says. Assumes nothing.
-use mathlib.Core.Path.{_≡_, sym, _∙_}
+use mathlib.Core.Path.{sym, _∙_}
 use Rattle.fscrypt.specs.Cipher.{fscrypt}
+use Rattle.fscrypt.proofs.Padding.{name-fits}
 use Rattle.volume.specs.Step.{lent, check}
-use Rattle.requests.proofs.Settling.{refuses, acts, create-room}
+use Rattle.volume.proofs.Passed.{create-passed}
+use Rattle.requests.proofs.Settling.{refuses, acts}
 use borrow.Author.Needs.{needs}
 use Rattle.requests.proofs.create.Statement.{statement}
 use Rattle.requests.proofs.create.Tie as tie
@@ -17,7 +19,7 @@ enum-told : tie.Need-enum-told
 enum-told c = search needs
 
 create-requires : tie.Need-create-requires
-create-requires c κs = let k = create-room fscrypt _ _ _ _ _ (sym (c .before .before .create-check .ensures) ∙ c .enum-told .given .1) in (k .name .fits, (k .name .key, (k .known, (k .inode, k .entry))))
+create-requires c κs = let k = create-passed fscrypt _ _ _ _ _ (sym (c .before .before .create-check .ensures) ∙ c .enum-told .given .1) in (name-fits _ (k .name), (k .key, (k .kind .1, (k .inode-room, k .entry-room))))
 
 returns : tie.Need-returns
 unfolding check lent

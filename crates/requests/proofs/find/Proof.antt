@@ -1,8 +1,10 @@
 -- `find`: refused as its check says, or done as its effect says. Assumes nothing.
-use mathlib.Core.Path.{_≡_, sym, _∙_}
+use mathlib.Core.Path.{sym, _∙_}
 use Rattle.fscrypt.specs.Cipher.{fscrypt}
+use Rattle.fscrypt.proofs.Padding.{name-fits}
 use Rattle.volume.specs.Step.{lent, check}
-use Rattle.requests.proofs.Settling.{refuses, acts, find-room}
+use Rattle.volume.proofs.Passed.{find-passed}
+use Rattle.requests.proofs.Settling.{refuses, acts}
 use borrow.Author.Needs.{needs}
 use Rattle.requests.proofs.find.Statement.{statement}
 use Rattle.requests.proofs.find.Tie as tie
@@ -17,7 +19,7 @@ enum-told : tie.Need-enum-told
 enum-told c = search needs
 
 find-requires : tie.Need-find-requires
-find-requires c κs = let k = find-room fscrypt _ _ _ (sym (c .before .before .find-check .ensures) ∙ c .enum-told .given .1) in (k .fits, k .key)
+find-requires c κs = let k = find-passed fscrypt _ _ _ (sym (c .before .before .find-check .ensures) ∙ c .enum-told .given .1) in (name-fits _ (k .name), k .key)
 
 returns : tie.Need-returns
 unfolding check lent

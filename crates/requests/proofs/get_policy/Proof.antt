@@ -1,5 +1,5 @@
 -- `get_policy`: refused as its check says, or done as its effect says. Assumes nothing.
-use mathlib.Core.Path.{_≡_, ap}
+use mathlib.Core.Path.{ap}
 use Rattle.fscrypt.specs.Cipher.{fscrypt}
 use Rattle.volume.specs.Step.{lent, check, effect}
 use Rattle.requests.proofs.Settling.{refuses, acts, policy-beside, zeros-beside}

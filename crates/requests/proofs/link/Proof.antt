@@ -1,8 +1,10 @@
 -- `link`: refused as its check says, or done as its effect says. Assumes nothing.
-use mathlib.Core.Path.{_≡_, sym, _∙_}
+use mathlib.Core.Path.{sym, _∙_}
 use Rattle.fscrypt.specs.Cipher.{fscrypt}
+use Rattle.fscrypt.proofs.Padding.{name-fits}
 use Rattle.volume.specs.Step.{lent, check}
-use Rattle.requests.proofs.Settling.{refuses, acts, link-room}
+use Rattle.volume.proofs.Passed.{link-passed}
+use Rattle.requests.proofs.Settling.{refuses, acts}
 use borrow.Author.Needs.{needs}
 use Rattle.requests.proofs.link.Statement.{statement}
 use Rattle.requests.proofs.link.Tie as tie
@@ -17,7 +19,7 @@ enum-told : tie.Need-enum-told
 enum-told c = search needs
 
 link-requires : tie.Need-link-requires
-link-requires c κs = let k = link-room fscrypt _ _ _ _ (sym (c .before .before .link-check .ensures) ∙ c .enum-told .given .1) in (k .name .fits, (k .name .key, k .entry))
+link-requires c κs = let k = link-passed fscrypt _ _ _ _ (sym (c .before .before .link-check .ensures) ∙ c .enum-told .given .1) in (name-fits _ (k .name), (k .key, k .entry-room))
 
 returns : tie.Need-returns
 unfolding check lent

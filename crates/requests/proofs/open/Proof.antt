@@ -1,8 +1,9 @@
 -- `open`: refused as its check says, or done as its effect says. Assumes nothing.
-use mathlib.Core.Path.{_≡_, sym, _∙_}
+use mathlib.Core.Path.{sym, _∙_}
 use Rattle.fscrypt.specs.Cipher.{fscrypt}
 use Rattle.volume.specs.Step.{lent, check}
-use Rattle.requests.proofs.Settling.{refuses, acts, block-room}
+use Rattle.volume.proofs.Passed.{block-passed}
+use Rattle.requests.proofs.Settling.{refuses, acts}
 use borrow.Author.Needs.{needs}
 use Rattle.requests.proofs.open.Statement.{statement}
 use Rattle.requests.proofs.open.Tie as tie
@@ -17,7 +18,7 @@ enum-told : tie.Need-enum-told
 enum-told c = search needs
 
 open-requires : tie.Need-open-requires
-open-requires c κs = let k = block-room _ _ _ (sym (c .before .before .before .block-check .ensures) ∙ c .before .enum-told .given .1) in (k .key, k .encrypted)
+open-requires c κs = let k = block-passed _ _ _ (sym (c .before .before .before .block-check .ensures) ∙ c .before .enum-told .given .1) in (k .key, k .has-context)
 
 returns : tie.Need-returns
 unfolding check lent

@@ -1,8 +1,9 @@
 -- `remove_key`: refused as its check says, or done as its effect says. Assumes nothing.
-use mathlib.Core.Path.{_≡_, sym, _∙_}
+use mathlib.Core.Path.{sym, _∙_}
 use Rattle.fscrypt.specs.Cipher.{fscrypt}
 use Rattle.volume.specs.Step.{lent, check}
-use Rattle.requests.proofs.Settling.{refuses, acts, key-held}
+use Rattle.volume.proofs.Passed.{remove-key-passed}
+use Rattle.requests.proofs.Settling.{refuses, acts}
 use borrow.Author.Needs.{needs}
 use Rattle.requests.proofs.remove_key.Statement.{statement}
 use Rattle.requests.proofs.remove_key.Tie as tie
@@ -17,7 +18,7 @@ enum-told : tie.Need-enum-told
 enum-told c = search needs
 
 remove-key-requires : tie.Need-remove-key-requires
-remove-key-requires c κs = let k = key-held _ _ (sym (c .before .before .remove-key-check .ensures) ∙ c .enum-told .given .1) in k
+remove-key-requires c κs = remove-key-passed _ _ (sym (c .before .before .remove-key-check .ensures) ∙ c .enum-told .given .1)
 
 returns : tie.Need-returns
 unfolding check lent

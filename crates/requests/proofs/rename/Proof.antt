@@ -1,8 +1,10 @@
 -- `rename`: refused as its check says, or done as its effect says. Assumes nothing.
-use mathlib.Core.Path.{_≡_, sym, _∙_}
+use mathlib.Core.Path.{sym, _∙_}
 use Rattle.fscrypt.specs.Cipher.{fscrypt}
+use Rattle.fscrypt.proofs.Padding.{name-fits}
 use Rattle.volume.specs.Step.{lent, check}
-use Rattle.requests.proofs.Settling.{refuses, acts, rename-room}
+use Rattle.volume.proofs.Passed.{rename-passed}
+use Rattle.requests.proofs.Settling.{refuses, acts}
 use borrow.Author.Needs.{needs}
 use Rattle.requests.proofs.rename.Statement.{statement}
 use Rattle.requests.proofs.rename.Tie as tie
@@ -17,7 +19,7 @@ enum-told : tie.Need-enum-told
 enum-told c = search needs
 
 rename-requires : tie.Need-rename-requires
-rename-requires c κs = let k = rename-room fscrypt _ _ _ _ (sym (c .before .before .rename-check .ensures) ∙ c .enum-told .given .1) in (k .fits, k .key)
+rename-requires c κs = let k = rename-passed fscrypt _ _ _ _ (sym (c .before .before .rename-check .ensures) ∙ c .enum-told .given .1) in (name-fits _ (k .name), k .key)
 
 returns : tie.Need-returns
 unfolding check lent

@@ -1,5 +1,4 @@
 -- `set_policy`: refused as its check says, or done as its effect says. Assumes nothing.
-use mathlib.Core.Path.{_≡_, sym, _∙_}
 use Rattle.fscrypt.specs.Cipher.{fscrypt}
 use Rattle.volume.specs.Step.{lent, check}
 use Rattle.requests.proofs.Settling.{refuses, acts}

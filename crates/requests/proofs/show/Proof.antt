@@ -1,8 +1,9 @@
 -- `show`: refused as its check says, or done as its effect says. Assumes nothing.
-use mathlib.Core.Path.{_≡_, sym, _∙_}
+use mathlib.Core.Path.{sym, _∙_}
 use Rattle.fscrypt.specs.Cipher.{fscrypt}
 use Rattle.volume.specs.Step.{lent, check}
-use Rattle.requests.proofs.Settling.{refuses, acts, show-room}
+use Rattle.volume.proofs.Passed.{show-passed}
+use Rattle.requests.proofs.Settling.{refuses, acts}
 use borrow.Author.Needs.{needs}
 use Rattle.requests.proofs.show.Statement.{statement}
 use Rattle.requests.proofs.show.Tie as tie
@@ -17,7 +18,7 @@ enum-told : tie.Need-enum-told
 enum-told c = search needs
 
 show-requires : tie.Need-show-requires
-show-requires c κs = let k = show-room fscrypt _ _ _ (sym (c .before .before .before .show-check .ensures) ∙ c .before .enum-told .given .1) in k
+show-requires c κs = show-passed fscrypt _ _ _ (sym (c .before .before .before .show-check .ensures) ∙ c .before .enum-told .given .1) .room
 
 returns : tie.Need-returns
 unfolding check lent
