@@ -1,12 +1,17 @@
 -- Document 01: "Every promise about a shelf speaks of one that started fresh and was changed by requests alone." Assumes nothing.
+use mathlib.Core.Path.{_≡_}
+use mathlib.Core.Logic.{_≢_}
 use mathlib.Core.List.{List, List·Memᴰ}
 use Rattle.fscrypt.specs.Cipher.{Cipher}
-use Rattle.volume.specs.Volume.{fresh}
+use Rattle.volume.specs.Volume.{inodeSlots, fresh}
 use Rattle.volume.specs.Request.{Request, AllTyped}
+use Rattle.volume.specs.Lookup.{inodeAt, climbFrom}
 use Rattle.volume.specs.Run.{Moment, run}
 use Rattle.volume.specs.Sound.{Sound}
 use Rattle.volume.specs.Bytewise.{Bytewise}
 use Rattle.volume.specs.ShownApart.{KeepsPromise}
+use Rattle.volume.specs.declared.InodeNumber.{InodeNumber}
+use Rattle.volume.specs.declared.Met.the-variants.{Neither}
 
 -- a fresh volume is sound and its bytes are bytes, and so is the volume after every request of every list
 abbrev pub AlwaysSound : Cipher → Type 0
@@ -15,3 +20,10 @@ AlwaysSound C = Sound fresh × Bytewise fresh × ((rs : List Request) → AllTyp
 -- names shown without the key keep their promise after every request of every list
 abbrev pub PromiseKept : Cipher → Type 0
 PromiseKept C = (rs : List Request) → AllTyped rs → (m : Moment) → List·Memᴰ m (run C rs) → KeepsPromise C (m .volume)
+
+-- after every request of every list the climb from a directory "stops at whichever it meets first, the moved folder or the root" (document 01): its steps, one for
+-- each inode there is room for, never run out before
+abbrev pub ClimbEnds : Cipher → Type 0
+ClimbEnds C =
+    (rs : List Request) → AllTyped rs → (m : Moment) → List·Memᴰ m (run C rs)
+    → (moved p : InodeNumber) → (inodeAt (m .volume) p) .kind ≡ 1 → climbFrom (m .volume) moved inodeSlots p ≢ Neither

@@ -9,7 +9,7 @@ ghost use Rattle.volume.specs.SealedOpens.{SealedOpens};
 ghost use Rattle.volume.specs.Request.{AllTyped, thirteen};
 ghost use Rattle.volume.specs.TwoRuns.{TwoRuns};
 ghost use Rattle.volume.specs.KeyedNames.{EveryRunKeyed};
-ghost use Rattle.requests.specs.Claims.{AlwaysSound, PromiseKept};
+ghost use Rattle.requests.specs.Claims.{AlwaysSound, ClimbEnds, PromiseKept};
 
 // Demand 1: a refusal is one of document 01's table, and changes no byte of the volume nor of a lent buffer; show writes the name's bytes and no others; requests
 // that only ask leave the volume.
@@ -20,6 +20,11 @@ pub fn refusals_alter_nothing()
 // A fresh volume is sound and its bytes are bytes, and so is the volume after every request of every list.
 pub fn every_volume_is_sound()
     ensures { λ _. ⌜ AlwaysSound fscrypt ⌝ }
+{}
+
+// The climb meets the moved directory or the root, after every request of every list: `Met::Neither`, for steps that ran out, is never met from a directory.
+pub fn the_climb_ends()
+    ensures { λ _. ⌜ ClimbEnds fscrypt ⌝ }
 {}
 
 // Link, rename and exchange give the policy refusal exactly when an encrypted directory would gain what lacks its policy; so at no time does one stand there.
