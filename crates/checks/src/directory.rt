@@ -1,4 +1,4 @@
-// Create, link, rename, exchange, remove, find.
+// Create, link, rename, exchange, remove, find, show.
 use crate::shared;
 use crate::shared::POLICY_REFUSAL;
 use errno::Checked;
@@ -7,10 +7,13 @@ use fscrypt::fname;
 use lookup::climb;
 use lookup::entries;
 use lookup::inodes;
+use volume::DIRECTORY;
 use volume::ENTRY_SLOTS;
 use volume::EntryNumber;
+use volume::FREE;
 use volume::INODE_SLOTS;
 use volume::InodeNumber;
+use volume::SPECIAL;
 use volume::Volume;
 ghost use mathlib.Core.Path.{_≡_};
 ghost use mathlib.Core.Bool.{_&&_};
@@ -18,15 +21,15 @@ ghost use Prim.Native.Nat.{_≤_};
 ghost use lib.ListN.{length};
 ghost use Rattle.fscrypt.specs.Cipher.{fscrypt};
 ghost use Rattle.volume.specs.Lookup.{inodeAt, isBorne};
-ghost use Rattle.volume.specs.Checks.{isBadKind, isNonceNeeded, roomCheck, createCheck, linkedCheck, linkCheck, moveCheck, renameCheck, swapCheck, exchangeCheck, removeCheck, findCheck};
+ghost use Rattle.volume.specs.Checks.{isBadKind, isNonceNeeded, roomCheck, createCheck, linkedCheck, linkCheck, moveCheck, renameCheck, swapCheck, exchangeCheck, removeCheck, findCheck, showCheck};
 
 fn is_bad_kind(kind: u64) -> bool
     ensures { λ r. ⌜ r ≡ isBadKind kind ⌝ }
 {
-    if kind == 0 {
+    if kind == FREE as u64 {
         return true;
     }
-    4 < kind
+    (SPECIAL as u64) < kind
 }
 
 // Whether a nonce is needed, and borne by an inode now there.
@@ -89,7 +92,7 @@ fn linked_check(v: Volume, i: InodeNumber, p: InodeNumber, name: &[u8]) -> Check
     ensures { λ r. ⌜ r ≡ linkedCheck fscrypt v i p (now (name .entry)) ⌝ }
 {
     let node = inodes::inode_at(v, i);
-    if node.kind == 1 {
+    if node.kind == DIRECTORY {
         return Checked::Refused(Errno::EPERM);
     }
     if shared::lacks_key(v, p) {
@@ -117,7 +120,7 @@ pub fn link_check(v: Volume, i: InodeNumber, p: InodeNumber, name: &[u8]) -> Che
         Checked::Fine => {}
     }
     let node = inodes::inode_at(v, i);
-    if node.kind == 0 {
+    if node.kind == FREE {
         return Checked::Refused(Errno::ENOENT);
     }
     match shared::directory_check(v, p) {
@@ -261,4 +264,21 @@ pub fn find_check(v: Volume, p: InodeNumber, name: &[u8]) -> Checked
         return Checked::Refused(Errno::ENOENT);
     }
     Checked::Fine
+}
+
+pub fn show_check(v: Volume, n: EntryNumber, room: usize) -> Checked
+    ensures { λ r. ⌜ r ≡ showCheck fscrypt v n room ⌝ }
+{
+    if room < 255 {
+        return Checked::Refused(Errno::ERANGE);
+    }
+    let e = entries::entry_at(v, n);
+    if e.len == 0 {
+        return Checked::Refused(Errno::ENOENT);
+    }
+    let parent = e.parent;
+    let dir = inodes::inode_at(v, parent);
+    let read = names::shown_name(v, dir, n, e);
+    let checked = read.checked;
+    checked
 }

@@ -2,4 +2,5 @@
 pub mod contents;
 pub mod directory;
 pub mod keyring;
+pub mod policies;
 pub mod shared;

@@ -2,8 +2,11 @@
 use errno::Checked;
 use errno::Errno;
 use lookup::inodes;
+use volume::DIRECTORY;
+use volume::FREE;
 use volume::Inode;
 use volume::InodeNumber;
+use volume::SYMLINK;
 use volume::Volume;
 ghost use mathlib.Core.Path.{_≡_};
 ghost use Rattle.volume.specs.Lookup.{inodeAt, lacksKey};
@@ -27,7 +30,7 @@ fn is_policy_refused(dir: Inode, node: Inode) -> bool
     if !dir.encrypted {
         return false;
     }
-    if 3 < node.kind {
+    if SYMLINK < node.kind {
         return false;
     }
     if !node.encrypted {
@@ -53,10 +56,10 @@ pub fn directory_check(v: Volume, p: InodeNumber) -> Checked
     ensures { λ r. ⌜ r ≡ directoryCheck v p ⌝ }
 {
     let dir = inodes::inode_at(v, p);
-    if dir.kind == 0 {
+    if dir.kind == FREE {
         return Checked::Refused(Errno::ENOENT);
     }
-    if dir.kind != 1 {
+    if dir.kind != DIRECTORY {
         return Checked::Refused(Errno::ENOTDIR);
     }
     Checked::Fine

@@ -48,19 +48,19 @@ module _ (dir : Inode) (kind : ℕ) (x : Bytes) (t : Bool) (h : t ≡ isNonceNee
 pub entry-past : (v : Volume) (n : ℕ) (e : Entry) → length (v .entries) ≤ n → v ≡ withEntries v (set (v .entries) n e)
 entry-past v n e h i = withEntries v (sym (set-out (v .entries) n e h) i)
 
+pub inode-past : (v : Volume) (n : ℕ) (x : Inode) → length (v .inodes) ≤ n → v ≡ withInodes v (set (v .inodes) n x)
+inode-past v n x h i = withInodes v (sym (set-out (v .inodes) n x h) i)
+
 module _ (v : Volume) (i : InodeNumber) (t : Bool) (h : t ≡ isHeld (v .entries) i) where
   pub held-kept : t ≡ true → v ≡ withInodes v (withoutUnheld (v .inodes) (v .entries) i)
   unfolding withoutUnheld
   held-kept e j = withInodes v (sym (if-true (v .inodes) (set (v .inodes) (i .0) noInode) (sym h ∙ e)) j)
 
-  pub unheld-freed : t ≡ false → (n : Inode) → n ≡ noInode → withInodes v (set (v .inodes) (i .0) n) ≡ withInodes v (withoutUnheld (v .inodes) (v .entries) i)
+  pub unheld-freed : t ≡ false → (n : Inode) (next : Volume) → n ≡ noInode → next ≡ withInodes v (set (v .inodes) (i .0) n)
+      → next ≡ withInodes v (withoutUnheld (v .inodes) (v .entries) i)
   unfolding withoutUnheld
-  unheld-freed e n b j = withInodes v ((ap (set (v .inodes) (i .0)) b ∙ sym (if-false (v .inodes) (set (v .inodes) (i .0) noInode) (sym h ∙ e))) j)
-
-  pub unheld-past : t ≡ false → length (v .inodes) ≤ i .0 → v ≡ withInodes v (withoutUnheld (v .inodes) (v .entries) i)
-  unfolding withoutUnheld
-  unheld-past e l j =
-      withInodes v ((sym (set-out (v .inodes) (i .0) noInode l) ∙ sym (if-false (v .inodes) (set (v .inodes) (i .0) noInode) (sym h ∙ e))) j)
+  unheld-freed e n next b q =
+      q ∙ (λ j. withInodes v ((ap (set (v .inodes) (i .0)) b ∙ sym (if-false (v .inodes) (set (v .inodes) (i .0) noInode) (sym h ∙ e))) j))
 
 -- ---- the requests
 
@@ -83,20 +83,12 @@ module _ (C : Cipher) (v : Volume) where
     unfolding effect
     policy-kept e = ap (outcome done []) (sym (if-true _ _ (sym (ap (λ (n : Inode). n .encrypted) hn) ∙ e)))
 
-    module _ (e : node .encrypted ≡ false) where
-      pub policy-set : (r : PolicyRead) (dir : Inode) → r ≡ readPolicy b → dir ≡ encryptedInode 1 (r .policy) x
-          → outcome done [] (withInodes v (set (v .inodes) (i .0) dir)) ≡ effect C v (setPolicy i b x)
-      unfolding effect
-      policy-set r dir hr hd =
-          ap (λ (d : Inode). outcome done [] (withInodes v (set (v .inodes) (i .0) d))) (hd ∙ ap (λ (y : PolicyRead). encryptedInode 1 (y .policy) x) hr)
-          ∙ ap (outcome done []) (sym (if-false _ _ (sym (ap (λ (n : Inode). n .encrypted) hn) ∙ e)))
-
-      pub policy-past : length (v .inodes) ≤ i .0 → outcome done [] v ≡ effect C v (setPolicy i b x)
-      unfolding effect
-      policy-past l =
-          let dir = encryptedInode 1 ((readPolicy b) .policy) x in
-          (λ j. outcome done [] (withInodes v (sym (set-out (v .inodes) (i .0) dir l) j)))
-          ∙ ap (outcome done []) (sym (if-false _ _ (sym (ap (λ (n : Inode). n .encrypted) hn) ∙ e)))
+    pub policy-set : node .encrypted ≡ false → (r : PolicyRead) (dir : Inode) (next : Volume) → r ≡ readPolicy b → dir ≡ encryptedInode 1 (r .policy) x
+        → next ≡ withInodes v (set (v .inodes) (i .0) dir) → outcome done [] next ≡ effect C v (setPolicy i b x)
+    unfolding effect
+    policy-set e r dir next hr hd hv =
+        ap (outcome done []) (hv ∙ ap (λ (d : Inode). withInodes v (set (v .inodes) (i .0) d)) (hd ∙ ap (λ (y : PolicyRead). encryptedInode 1 (y .policy) x) hr))
+        ∙ ap (outcome done []) (sym (if-false _ _ (sym (ap (λ (n : Inode). n .encrypted) hn) ∙ e)))
 
   pub entry-stored : (p i : InodeNumber) (n : Bytes) (dir : Inode) (s : Name) (e : Entry) → dir ≡ inodeAt v p → s ≡ packed (stored C v dir n)
       → e ≡ record { len = s .len; parent = p; inode = i; name = s .bytes } → e ≡ entrySlot p i (stored C v (inodeAt v p) n)

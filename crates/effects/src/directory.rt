@@ -1,31 +1,36 @@
-// Create, link, rename, exchange, remove, find.
+// Create, link, rename, exchange, remove, find, show.
+use crate::tables;
 use fscrypt::Name;
 use lookup::entries;
 use lookup::inodes;
+use lookup::keyring;
 use volume::Changed;
 use volume::CreateAnswer;
 use volume::CreateOutcome;
-use volume::ENTRY_SLOTS;
 use volume::Entry;
 use volume::EntryAnswer;
 use volume::EntryNumber;
-use volume::INODE_SLOTS;
+use volume::Form;
 use volume::Inode;
 use volume::InodeNumber;
 use volume::LinkOutcome;
 use volume::Reply;
+use volume::ShowAnswer;
+use volume::ShownEntry;
 use volume::Volume;
 ghost use mathlib.Core.Path.{_≡_};
 ghost use mathlib.Core.List.{[]};
 ghost use mathlib.Core.Bool.{false};
 ghost use Prim.Native.Nat.{_≤_, _<_};
-ghost use lib.ListN.{length, set};
+ghost use lib.ListN.{length};
+ghost use Rattle.lists.specs.Bytes.{laidOver};
 ghost use Rattle.fscrypt.specs.Cipher.{fscrypt};
+ghost use Rattle.fscrypt.specs.Names.{nameBytes};
 ghost use Rattle.volume.specs.Volume.{inodeSlots, entrySlots, entrySlot};
-ghost use Rattle.volume.specs.Request.{outcome, replied, createAnswered, entryAnswered, create, link, rename, exchange, remove, find};
+ghost use Rattle.volume.specs.Request.{outcome, replied, createAnswered, entryAnswered, showAnswered, create, link, rename, exchange, remove, find, show};
 ghost use Rattle.volume.specs.Lookup.{inodeAt, lacksKey, freeInode, freeEntry};
-ghost use Rattle.volume.specs.DirectoryNames.{stored};
-ghost use Rattle.volume.specs.Step.{childOf, withInode, withEntries, withoutUnheld, effect};
+ghost use Rattle.volume.specs.DirectoryNames.{stored, formIn};
+ghost use Rattle.volume.specs.Step.{withInodes, withInode, childOf, withoutUnheld, effect};
 
 // A child of this directory: it inherits the policy, unless it is special.
 fn new_inode(dir: Inode, kind: u64, x: [u8; 16]) -> Inode
@@ -33,7 +38,7 @@ fn new_inode(dir: Inode, kind: u64, x: [u8; 16]) -> Inode
     ensures { λ r. ⌜ r ≡ childOf dir kind x ⌝ }
 {
     if !inodes::is_nonce_needed(dir, kind) {
-        let mut plain = inodes::blank_inode();
+        let mut plain = inodes::no_inode();
         plain.kind = kind as u8;
         return plain;
     }
@@ -63,19 +68,6 @@ fn stored_entry(v: Volume, p: InodeNumber, i: InodeNumber, name: &[u8]) -> Entry
     let dir = inodes::inode_at(v, p);
     let s = names::stored_name(v, dir, name);
     new_entry(p, i, s)
-}
-
-// The volume with an entry stored at a number; a number that no entry has changes nothing.
-fn with_entry(v: Volume, n: EntryNumber, e: Entry) -> Volume
-    ensures { λ r. ⌜ r ≡ withEntries v (set (v .entries) (n .0) e) ⌝ }
-{
-    let mut next = v;
-    if n.0 < ENTRY_SLOTS as u64 {
-        let i = n.0 as usize;
-        next.entries[i] = e;
-        return next;
-    }
-    next
 }
 
 pub fn create(v: Volume, p: InodeNumber, kind: u64, name: &[u8], x: [u8; 16]) -> CreateOutcome
@@ -109,7 +101,7 @@ pub fn link(v: Volume, i: InodeNumber, p: InodeNumber, name: &[u8]) -> LinkOutco
     let k = entries::free_entry(v);
     let e = stored_entry(v, p, i, name);
     let number = EntryNumber(k as u64);
-    let next = with_entry(v, number, e);
+    let next = tables::put_entry(v, number, e);
     LinkOutcome {
         answer: EntryAnswer::At(number),
         volume: next,
@@ -123,7 +115,7 @@ pub fn rename(v: Volume, n: EntryNumber, p: InodeNumber, name: &[u8]) -> Changed
 {
     let old = entries::entry_at(v, n);
     let e = stored_entry(v, p, old.inode, name);
-    let next = with_entry(v, n, e);
+    let next = tables::put_entry(v, n, e);
     Changed {
         answer: Reply::Done,
         volume: next,
@@ -150,8 +142,8 @@ pub fn exchange(v: Volume, a: EntryNumber, b: EntryNumber) -> Changed
 {
     let one = entries::entry_at(v, a);
     let other = entries::entry_at(v, b);
-    let half = with_entry(v, a, with_inode(one, other.inode));
-    let next = with_entry(half, b, with_inode(other, one.inode));
+    let half = tables::put_entry(v, a, with_inode(one, other.inode));
+    let next = tables::put_entry(half, b, with_inode(other, one.inode));
     Changed {
         answer: Reply::Done,
         volume: next,
@@ -160,20 +152,13 @@ pub fn exchange(v: Volume, a: EntryNumber, b: EntryNumber) -> Changed
 
 // The volume without an inode that no entry holds any more.
 fn without_unheld(v: Volume, i: InodeNumber) -> Volume
-    ensures { λ r. ⌜ r ≡ record { keys = v .keys; inodes = withoutUnheld (v .inodes) (v .entries) i; entries = v .entries } ⌝ }
+    ensures { λ r. ⌜ r ≡ withInodes v (withoutUnheld (v .inodes) (v .entries) i) ⌝ }
 {
-    let mut next = v;
     let es = v.entries;
     if entries::is_held(es, i) {
-        return next;
+        return v;
     }
-    if i.0 < INODE_SLOTS as u64 {
-        let k = i.0 as usize;
-        let n = inodes::blank_inode();
-        next.inodes[k] = n;
-        return next;
-    }
-    next
+    tables::put_inode(v, i, inodes::no_inode())
 }
 
 // The freed records are all zeros.
@@ -181,8 +166,8 @@ pub fn remove(v: Volume, n: EntryNumber) -> Changed
     ensures { λ r. ⌜ outcome (replied (r .answer)) [] (r .volume) ≡ effect fscrypt v (remove n) ⌝ }
 {
     let e = entries::entry_at(v, n);
-    let none = entries::blank_entry();
-    let cleared = with_entry(v, n, none);
+    let none = entries::no_entry();
+    let cleared = tables::put_entry(v, n, none);
     let next = without_unheld(cleared, e.inode);
     Changed {
         answer: Reply::Done,
@@ -197,4 +182,50 @@ pub fn find(v: Volume, p: InodeNumber, name: &[u8]) -> EntryAnswer
 {
     let i = names::entry_of(v, p, name);
     EntryAnswer::At(EntryNumber(i as u64))
+}
+
+// How names of this directory are shown.
+fn form_in(v: Volume, dir: Inode) -> Form
+    ensures { λ r. ⌜ r ≡ formIn v dir ⌝ }
+{
+    if !dir.encrypted {
+        return Form::Plain;
+    }
+    if keyring::key_present(v, dir) {
+        return Form::Decrypted;
+    }
+    Form::Encoded
+}
+
+// Copies a name to the buffer's start.
+fn copy_name(buf: &mut [u8], n: Name)
+    requires { ⌜ 255 ≤ length (now buf) ⌝ }
+    ensures { λ _. ⌜ now (buf .exit) ≡ laidOver (now (buf .entry)) (nameBytes n) ⌝ }
+{
+    let len = n.len as usize;
+    let bytes = n.bytes;
+    lists::copy_to(buf, 0, &bytes[..len]);
+}
+
+// The answer, and the name at the buffer's start.
+pub fn show(v: Volume, n: EntryNumber, buf: &mut [u8]) -> ShowAnswer
+    requires { ⌜ 255 ≤ length (now buf) ⌝ }
+    ensures { λ r. ⌜ outcome (showAnswered r) (now (buf .exit)) v ≡ effect fscrypt v (show n (now (buf .entry))) ⌝ }
+{
+    let e = entries::entry_at(v, n);
+    let parent = e.parent;
+    let number = e.inode;
+    let dir = inodes::inode_at(v, parent);
+    let read = names::shown_name(v, dir, n, e);
+    let name = read.name;
+    copy_name(buf, name);
+    let inode = inodes::inode_at(v, number);
+    let form = form_in(v, dir);
+    ShowAnswer::Shown(ShownEntry {
+        parent: parent,
+        inode: number,
+        kind: inode.kind,
+        form: form,
+        len: name.len,
+    })
 }

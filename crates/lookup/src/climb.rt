@@ -1,6 +1,7 @@
 // The climb from a directory towards the root, which finds whether a directory would be put under itself.
 use crate::entries;
 use crate::inodes;
+use volume::DIRECTORY;
 use volume::ENTRY_SLOTS;
 use volume::INODE_SLOTS;
 use volume::InodeNumber;
@@ -50,7 +51,7 @@ pub fn is_under_itself(v: Volume, moved: InodeNumber, parent: InodeNumber) -> bo
     ensures { λ r. ⌜ r ≡ isUnderItself v moved parent ⌝ }
 {
     let i = inodes::inode_at(v, moved);
-    if i.kind != 1 {
+    if i.kind != DIRECTORY {
         return false;
     }
     match climb(v, moved, parent) {

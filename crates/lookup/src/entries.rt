@@ -13,7 +13,7 @@ ghost use Rattle.volume.specs.Volume.{noEntry, nameOf};
 ghost use Rattle.volume.specs.Lookup.{entryAt, isVacant, freeEntry, isIn, isNamed, entryNamed, firstChild, hasEntries, isLink, firstLink, isHeld};
 
 // A free record: all zeros.
-pub fn blank_entry() -> Entry
+pub fn no_entry() -> Entry
     ensures { λ r. ⌜ r ≡ noEntry ⌝ }
 {
     let b = zeros::zeros255();
@@ -33,7 +33,7 @@ pub fn entry_at(v: Volume, n: EntryNumber) -> Entry
         let i = n.0 as usize;
         return v.entries[i];
     }
-    blank_entry()
+    no_entry()
 }
 
 // A record is free if its name has no bytes.

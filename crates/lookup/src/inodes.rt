@@ -1,9 +1,11 @@
 // Inodes: which has a number, where there is room, and which bears a nonce.
 use policy::Context;
 use policy::Policy;
+use volume::FREE;
 use volume::INODE_SLOTS;
 use volume::Inode;
 use volume::InodeNumber;
+use volume::SYMLINK;
 use volume::Volume;
 ghost use mathlib.Core.Path.{_≡_};
 ghost use Rattle.volume.specs.Volume.{noInode, encryptedInode};
@@ -11,12 +13,12 @@ ghost use Rattle.volume.specs.Checks.{isNonceNeeded};
 ghost use Rattle.volume.specs.Lookup.{inodeAt, isFree, freeInode, bearsNonce, nonceHolder, isBorne};
 
 // A free record: all zeros.
-pub fn blank_inode() -> Inode
+pub fn no_inode() -> Inode
     ensures { λ r. ⌜ r ≡ noInode ⌝ }
 {
     let c = policy::no_context();
     Inode {
-        kind: 0,
+        kind: FREE,
         encrypted: false,
         context: c,
     }
@@ -45,14 +47,14 @@ pub fn inode_at(v: Volume, n: InodeNumber) -> Inode
         let i = n.0 as usize;
         return v.inodes[i];
     }
-    blank_inode()
+    no_inode()
 }
 
 // A record is free if its inode has no kind.
 fn is_free_inode(i: Inode) -> bool
     ensures { λ r. ⌜ r ≡ isFree i ⌝ }
 {
-    i.kind == 0
+    i.kind == FREE
 }
 
 // The lowest free number, or the number of slots.
@@ -111,5 +113,5 @@ pub fn is_nonce_needed(dir: Inode, kind: u64) -> bool
     if !dir.encrypted {
         return false;
     }
-    kind <= 3
+    kind <= SYMLINK as u64
 }

@@ -9,7 +9,7 @@ ghost use Rattle.volume.specs.Volume.{noKey};
 ghost use Rattle.volume.specs.Lookup.{isFreeKey, onKeyring, keySlotOf, freeKeySlot, keyOf, keyPresent, lacksKey};
 
 // A free slot: all zeros.
-pub fn blank_key() -> Key
+pub fn no_key() -> Key
     ensures { λ r. ⌜ r ≡ noKey ⌝ }
 {
     let d = zeros::zeros8();
@@ -77,7 +77,7 @@ pub fn key_of(v: Volume, d: [u8; 8]) -> Key
     if i < KEY_SLOTS {
         return v.keys[i];
     }
-    blank_key()
+    no_key()
 }
 
 // Whether the key of this inode's policy is on the keyring and of the right size.

@@ -5,10 +5,12 @@ pub mod claims;
 use checks::contents;
 use checks::directory;
 use checks::keyring;
+use checks::policies;
 use errno::Checked;
 use volume::Changed;
 use volume::CreateAnswer;
 use volume::CreateOutcome;
+use volume::DIRECTORY;
 use volume::ENTRY_SLOTS;
 use volume::EntryAnswer;
 use volume::EntryNumber;
@@ -33,16 +35,16 @@ ghost use Rattle.requests.specs.Answers.{policyBeside};
 pub fn fresh() -> Volume
     ensures { λ r. ⌜ r ≡ freshVolume ⌝ }
 {
-    let k = lookup::keyring::blank_key();
-    let n = lookup::inodes::blank_inode();
-    let e = lookup::entries::blank_entry();
+    let k = lookup::keyring::no_key();
+    let n = lookup::inodes::no_inode();
+    let e = lookup::entries::no_entry();
     let mut v = Volume {
         keys: [k; KEY_SLOTS],
         inodes: [n; INODE_SLOTS],
         entries: [e; ENTRY_SLOTS],
     };
     let mut root = n;
-    root.kind = 1;
+    root.kind = DIRECTORY;
     v.inodes[0] = root;
     v
 }
@@ -76,12 +78,12 @@ pub fn remove_key(v: Volume, descriptor: [u8; 8]) -> Changed
 pub fn set_policy(v: Volume, inode: InodeNumber, policy: &[u8], nonce: [u8; 16]) -> Changed
     ensures { λ r. ⌜ outcome (replied (r .answer)) [] (r .volume) ≡ step fscrypt v (Request.setPolicy inode (now (policy .entry)) nonce) ⌝ }
 {
-    match keyring::set_policy_check(v, inode, policy, nonce) {
+    match policies::set_policy_check(v, inode, policy, nonce) {
         Checked::Refused(e) => Changed {
             answer: Reply::Refused(e),
             volume: v,
         },
-        Checked::Fine => effects::keyring::set_policy(v, inode, policy, nonce),
+        Checked::Fine => effects::policies::set_policy(v, inode, policy, nonce),
     }
 }
 
@@ -89,12 +91,12 @@ pub fn set_policy(v: Volume, inode: InodeNumber, policy: &[u8], nonce: [u8; 16])
 pub fn get_policy(v: Volume, inode: InodeNumber) -> PolicyOutcome
     ensures { λ r. ⌜ (outcome (policyAnswered (r .answer) (r .policy)) [] v ≡ step fscrypt v (Request.getPolicy inode)) × (r .policy ≡ policyBeside ((step fscrypt v (Request.getPolicy inode)) .answer)) ⌝ }
 {
-    match keyring::get_policy_check(v, inode) {
+    match policies::get_policy_check(v, inode) {
         Checked::Refused(e) => PolicyOutcome {
             answer: Reply::Refused(e),
             policy: [0u8; 12],
         },
-        Checked::Fine => effects::keyring::get_policy(v, inode),
+        Checked::Fine => effects::policies::get_policy(v, inode),
     }
 }
 
@@ -182,9 +184,9 @@ pub fn find(v: Volume, parent: InodeNumber, name: &[u8]) -> EntryAnswer
 pub fn show(v: Volume, entry: EntryNumber, buffer: &mut [u8]) -> ShowAnswer
     ensures { λ r. ⌜ outcome (showAnswered r) (now (buffer .exit)) v ≡ step fscrypt v (Request.show entry (now (buffer .entry))) ⌝ }
 {
-    match contents::show_check(v, entry, buffer.len()) {
+    match directory::show_check(v, entry, buffer.len()) {
         Checked::Refused(e) => ShowAnswer::Refused(e),
-        Checked::Fine => effects::contents::show(v, entry, buffer),
+        Checked::Fine => effects::directory::show(v, entry, buffer),
     }
 }
 

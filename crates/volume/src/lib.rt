@@ -15,7 +15,18 @@ pub struct Key {
     pub bytes: [u8; 64],
 }
 
-// An inode (document 01: thing): kind 0 is a free one; 1 directory, 2 regular file, 3 symlink, 4 special. It is encrypted if it has a context.
+// The kinds of an inode, by document 01's numbers; a free record has kind 0.
+pub const FREE: u8 = 0;
+
+pub const DIRECTORY: u8 = 1;
+
+pub const REGULAR: u8 = 2;
+
+pub const SYMLINK: u8 = 3;
+
+pub const SPECIAL: u8 = 4;
+
+// An inode (document 01: thing), of one of these kinds. It is encrypted if it has a context.
 pub struct Inode {
     pub kind: u8,
     pub encrypted: bool,

@@ -14,24 +14,24 @@ entry-at-requires-2 c κs = search needs
 with-inode-requires : tie.Need-with-inode-requires
 with-inode-requires c κs = search needs
 
-with-entry-requires : tie.Need-with-entry-requires
-with-entry-requires c κs = search needs
+put-entry-requires : tie.Need-put-entry-requires
+put-entry-requires c κs = search needs
 
 with-inode-requires-2 : tie.Need-with-inode-requires-2
 with-inode-requires-2 c κs = search needs
 
-with-entry-requires-2 : tie.Need-with-entry-requires-2
-with-entry-requires-2 c κs = search needs
+put-entry-requires-2 : tie.Need-put-entry-requires-2
+put-entry-requires-2 c κs = search needs
 
 returns : tie.Need-returns
 returns c =
     let one = c .before .before .before .before .before .entry-at in
     let other = c .before .before .before .before .entry-at2 in
     let x = c .before .before .before .with-inode in
-    let half = c .before .before .with-entry in
+    let half = c .before .before .put-entry in
     let y = c .before .with-inode2 in
     exchange-acts fscrypt _ _ _ (one .result) (other .result) (x .result) (y .result) (half .result) _
-    (one .ensures) (other .ensures) (x .ensures) (half .ensures) (y .ensures) (c .with-entry2 .ensures)
+    (one .ensures) (other .ensures) (x .ensures) (half .ensures) (y .ensures) (c .put-entry2 .ensures)
 
 pub exchange-spec : {M : Type 1} → statement M
 exchange-spec =
@@ -40,7 +40,7 @@ exchange-spec =
     entry-at-requires
     entry-at-requires-2
     with-inode-requires
-    with-entry-requires
+    put-entry-requires
     with-inode-requires-2
-    with-entry-requires-2
+    put-entry-requires-2
     returns)

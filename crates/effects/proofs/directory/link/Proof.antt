@@ -11,15 +11,15 @@ free-entry-requires c κs = search needs
 stored-entry-requires : tie.Need-stored-entry-requires
 stored-entry-requires c κs = search needs
 
-with-entry-requires : tie.Need-with-entry-requires
-with-entry-requires c κs = search needs
+put-entry-requires : tie.Need-put-entry-requires
+put-entry-requires c κs = search needs
 
 returns : tie.Need-returns
 returns c =
     let k = c .before .before .free-entry in
     let e = c .before .stored-entry in
-    link-acts fscrypt _ _ _ _ (k .result) (e .result) _ (k .ensures) (e .ensures) (c .with-entry .ensures)
+    link-acts fscrypt _ _ _ _ (k .result) (e .result) _ (k .ensures) (e .ensures) (c .put-entry .ensures)
 
 pub link-spec : {M : Type 1} → statement M
 link-spec =
-    tie.close (tie.spec free-entry-requires stored-entry-requires with-entry-requires returns)
+    tie.close (tie.spec free-entry-requires stored-entry-requires put-entry-requires returns)

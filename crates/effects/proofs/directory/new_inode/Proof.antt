@@ -8,8 +8,8 @@ use Rattle.effects.proofs.directory.new_inode.Tie as tie
 is-nonce-needed-requires : tie.Need-is-nonce-needed-requires
 is-nonce-needed-requires c κs = search needs
 
-blank-inode-requires : tie.Need-blank-inode-requires
-blank-inode-requires c κs = search needs
+no-inode-requires : tie.Need-no-inode-requires
+no-inode-requires c κs = search needs
 
 cast-plain : tie.Need-cast-plain
 cast-plain c = search needs
@@ -17,7 +17,7 @@ cast-plain c = search needs
 returns : tie.Need-returns
 returns c =
     let t = c .before .before .is-nonce-needed in
-    child-plain _ _ _ (t .result) (t .ensures) (c .blank-inode .result) (not-true _ (c .before .if1 .taken)) (c .blank-inode .ensures)
+    child-plain _ _ _ (t .result) (t .ensures) (c .no-inode .result) (not-true _ (c .before .if1 .taken)) (c .no-inode .ensures)
 
 cast-encrypted-inode : tie.Need-cast-encrypted-inode
 cast-encrypted-inode c = search needs
@@ -36,7 +36,7 @@ new-inode-spec =
     tie.close
     (tie.spec
     is-nonce-needed-requires
-    blank-inode-requires
+    no-inode-requires
     cast-plain
     returns
     cast-encrypted-inode

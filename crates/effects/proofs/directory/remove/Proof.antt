@@ -8,11 +8,11 @@ use Rattle.effects.proofs.directory.remove.Tie as tie
 entry-at-requires : tie.Need-entry-at-requires
 entry-at-requires c κs = search needs
 
-blank-entry-requires : tie.Need-blank-entry-requires
-blank-entry-requires c κs = search needs
+no-entry-requires : tie.Need-no-entry-requires
+no-entry-requires c κs = search needs
 
-with-entry-requires : tie.Need-with-entry-requires
-with-entry-requires c κs = search needs
+put-entry-requires : tie.Need-put-entry-requires
+put-entry-requires c κs = search needs
 
 without-unheld-requires : tie.Need-without-unheld-requires
 without-unheld-requires c κs = search needs
@@ -20,8 +20,8 @@ without-unheld-requires c κs = search needs
 returns : tie.Need-returns
 returns c =
     let e = c .before .before .before .entry-at in
-    let z = c .before .before .blank-entry in
-    let w = c .before .with-entry in
+    let z = c .before .before .no-entry in
+    let w = c .before .put-entry in
     remove-acts fscrypt _ _ (e .result) (z .result) (w .result) _ (e .ensures) (z .ensures) (w .ensures) (c .without-unheld .ensures)
 
 pub remove-spec : {M : Type 1} → statement M
@@ -29,7 +29,7 @@ remove-spec =
     tie.close
     (tie.spec
     entry-at-requires
-    blank-entry-requires
-    with-entry-requires
+    no-entry-requires
+    put-entry-requires
     without-unheld-requires
     returns)

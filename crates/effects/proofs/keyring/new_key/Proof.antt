@@ -8,21 +8,21 @@ use Rattle.effects.proofs.Acting.{key-laid}
 use Rattle.effects.proofs.keyring.new_key.Statement.{statement}
 use Rattle.effects.proofs.keyring.new_key.Tie as tie
 
-blank-key-requires : tie.Need-blank-key-requires
-blank-key-requires c κs = search needs
+no-key-requires : tie.Need-no-key-requires
+no-key-requires c κs = search needs
 
 slice-aggregate-copy-to : tie.Need-slice-aggregate-copy-to
 slice-aggregate-copy-to c = search needs
 
 copy-to-requires : tie.Need-copy-to-requires
-copy-to-requires c κs = let z : length (c .before .before .blank-key .result .bytes) ≡ 64 = search needs in omega arith
+copy-to-requires c κs = let z : length (c .before .before .no-key .result .bytes) ≡ 64 = search needs in omega arith
 
 cast-t9 : tie.Need-cast-t9
 cast-t9 c = search needs
 
 returns : tie.Need-returns
 returns c =
-    let z = c .before .before .before .before .blank-key in
+    let z = c .before .before .before .before .no-key in
     let s = c .before .before .before .before .before .before in
     let l : length (z .result .bytes) ≡ 64 = search needs in
     key-laid (s .args .d) _ (s .args .key .now) (z .result) (c .before .copy-to .ensures ∙ copied-over (z .result .bytes) (s .args .key .now) (omega arith)) (z .ensures)
@@ -30,4 +30,4 @@ returns c =
 pub new-key-spec : {M : Type 1} → statement M
 new-key-spec =
     tie.close
-    (tie.spec blank-key-requires slice-aggregate-copy-to copy-to-requires cast-t9 returns)
+    (tie.spec no-key-requires slice-aggregate-copy-to copy-to-requires cast-t9 returns)

@@ -21,15 +21,15 @@ returns c =
     let k = shaped (s .args .t1) (s .good .0) .entries in
     getD-any (s .args .t1 .entries) (s .args .n .0) _ _ (omega arith)
 
-blank-entry-requires : tie.Need-blank-entry-requires
-blank-entry-requires c κs = search needs
+no-entry-requires : tie.Need-no-entry-requires
+no-entry-requires c κs = search needs
 
 returns-2 : tie.Need-returns-2
 returns-2 c =
     let s = c .before .before .before in
     let k = shaped (s .args .t1) (s .good .0) .entries in
-    c .blank-entry .ensures ∙ sym (List·getD-eq-default (s .args .t1 .entries) noEntry {n = s .args .n .0} (omega arith))
+    c .no-entry .ensures ∙ sym (List·getD-eq-default (s .args .t1 .entries) noEntry {n = s .args .n .0} (omega arith))
 
 pub entry-at-spec : {M : Type 1} → statement M
 entry-at-spec =
-    tie.close (tie.spec mul-result element-copy-out-result returns blank-entry-requires returns-2)
+    tie.close (tie.spec mul-result element-copy-out-result returns no-entry-requires returns-2)

@@ -21,15 +21,15 @@ returns c =
     let k = shaped (s .args .t1) (s .good .0) .inodes in
     getD-any (s .args .t1 .inodes) (s .args .n .0) _ _ (omega arith)
 
-blank-inode-requires : tie.Need-blank-inode-requires
-blank-inode-requires c κs = search needs
+no-inode-requires : tie.Need-no-inode-requires
+no-inode-requires c κs = search needs
 
 returns-2 : tie.Need-returns-2
 returns-2 c =
     let s = c .before .before .before in
     let k = shaped (s .args .t1) (s .good .0) .inodes in
-    c .blank-inode .ensures ∙ sym (List·getD-eq-default (s .args .t1 .inodes) noInode {n = s .args .n .0} (omega arith))
+    c .no-inode .ensures ∙ sym (List·getD-eq-default (s .args .t1 .inodes) noInode {n = s .args .n .0} (omega arith))
 
 pub inode-at-spec : {M : Type 1} → statement M
 inode-at-spec =
-    tie.close (tie.spec mul-result element-copy-out-result returns blank-inode-requires returns-2)
+    tie.close (tie.spec mul-result element-copy-out-result returns no-inode-requires returns-2)

@@ -1,8 +1,4 @@
 -- `is_nonce_needed` is `isNonceNeeded`: a conjunction, returned early. Assumes nothing.
-use mathlib.Core.Path.{_≡_, refl, sym, _∙_, ap}
-use Prim.Native.Nat.{ℕ, _≤_, _<_, _-_, _+_}
-use native.Mathlib.Omega.{arith}
-use lib.ListN.{length}
 use Rattle.volume.specs.Checks.{isNonceNeeded}
 use Rattle.lists.proofs.Predicates.{predicates}
 use borrow.Author.Needs.{needs}
@@ -13,9 +9,12 @@ returns : tie.Need-returns
 unfolding isNonceNeeded
 returns c = search predicates depth 25
 
+cast-result : tie.Need-cast-result
+cast-result c = search needs
+
 returns-2 : tie.Need-returns-2
 unfolding isNonceNeeded
 returns-2 c = search predicates depth 25
 
 pub is-nonce-needed-spec : {M : Type 1} → statement M
-is-nonce-needed-spec = tie.close (tie.spec returns returns-2)
+is-nonce-needed-spec = tie.close (tie.spec returns cast-result returns-2)

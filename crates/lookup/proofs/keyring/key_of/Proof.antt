@@ -29,8 +29,8 @@ returns c =
     getD-any (s .args .t1 .keys) (f .result) _ noKey (omega arith)
     ∙ ap (λ (n : ℕ). getD (s .args .t1 .keys) n noKey) (f .ensures)
 
-blank-key-requires : tie.Need-blank-key-requires
-blank-key-requires c κs = search needs
+no-key-requires : tie.Need-no-key-requires
+no-key-requires c κs = search needs
 
 returns-2 : tie.Need-returns-2
 unfolding keyOf
@@ -38,7 +38,7 @@ returns-2 c =
     let s = c .before .before .before in
     let k = shaped (s .args .t1) (s .good .0) .keys in
     let f = c .before .before .key-slot in
-    c .blank-key .ensures ∙ sym (List·getD-eq-default (s .args .t1 .keys) noKey {n = f .result} (omega arith))
+    c .no-key .ensures ∙ sym (List·getD-eq-default (s .args .t1 .keys) noKey {n = f .result} (omega arith))
     ∙ ap (λ (n : ℕ). getD (s .args .t1 .keys) n noKey) (f .ensures)
 
 pub key-of-spec : {M : Type 1} → statement M
@@ -49,5 +49,5 @@ key-of-spec =
     mul-result
     element-copy-out-result
     returns
-    blank-key-requires
+    no-key-requires
     returns-2)
