@@ -1,7 +1,7 @@
 // The ciphers for programs in C and Rust. `rt staticlib capi` proves this crate and writes target/staticlib/libcapi.a, which defines these names.
 // Each function only calls the one of its name in ciphers, and answers its errno: 0, or 22 (EINVAL) where a length is wrong, and then the buffer is as
-// it was. A caller need test nothing. A slice is passed as the address of its first byte and then its length, so that in C the first function is
-//     uint8_t bulwarkle_xts_encrypt(const uint8_t *key, size_t key_len, uint64_t block_number, uint8_t *block, size_t block_len);
+// it was. A caller need test nothing. A slice is passed as the address of its first byte and then its length: bulwarkle.h beside src/ declares
+// them for C.
 //
 // Nothing checks a declaration in C or Rust against this file, nor a call: each address, which is not null, must have so many bytes behind it, key and
 // buffer must not overlap, and nobody else may write them during the call.

@@ -16,12 +16,12 @@ use volume::InodeNumber;
 use volume::SPECIAL;
 use volume::Volume;
 ghost use mathlib.Core.Path.{_≡_};
-ghost use mathlib.Core.Bool.{_&&_};
+ghost use mathlib.Core.Bool.{cond};
 ghost use Prim.Native.Nat.{_≤_};
 ghost use lib.ListN.{length};
 ghost use Rattle.fscrypt.specs.Cipher.{fscrypt};
-ghost use Rattle.volume.specs.Lookup.{inodeAt, isBorne};
-ghost use Rattle.volume.specs.Checks.{isBadKind, isNonceNeeded, roomCheck, createCheck, linkedCheck, linkCheck, moveCheck, renameCheck, swapCheck, exchangeCheck, removeCheck, findCheck, showCheck};
+ghost use Rattle.volume.specs.Lookup.{inodeAt};
+ghost use Rattle.volume.specs.Checks.{isBadKind, isNonceNeeded, nonceCheck, roomCheck, createCheck, linkedCheck, linkCheck, moveCheck, renameCheck, swapCheck, exchangeCheck, removeCheck, findCheck, showCheck};
 
 fn is_bad_kind(kind: u64) -> bool
     ensures { λ r. ⌜ r ≡ isBadKind kind ⌝ }
@@ -32,23 +32,26 @@ fn is_bad_kind(kind: u64) -> bool
     (SPECIAL as u64) < kind
 }
 
-// Whether a nonce is needed, and borne by an inode now there.
-fn is_nonce_taken(v: Volume, p: InodeNumber, kind: u64, x: [u8; 16]) -> bool
-    ensures { λ r. ⌜ r ≡ (isNonceNeeded (inodeAt v p) kind && isBorne v x) ⌝ }
+// The nonce of a new inode, which needs one where it inherits a policy.
+fn child_nonce_check(v: Volume, p: InodeNumber, kind: u64, x: [u8; 16]) -> Checked
+    ensures { λ r. ⌜ r ≡ cond (isNonceNeeded (inodeAt v p) kind) (nonceCheck v x) Checked.Fine ⌝ }
 {
     let dir = inodes::inode_at(v, p);
     if !inodes::is_nonce_needed(dir, kind) {
-        return false;
+        return Checked::Fine;
     }
-    inodes::is_borne(v, x)
+    shared::nonce_check(v, x)
 }
 
 // The end of create's table: the nonce, and room.
 fn room_check(v: Volume, p: InodeNumber, kind: u64, x: [u8; 16]) -> Checked
     ensures { λ r. ⌜ r ≡ roomCheck v p kind x ⌝ }
 {
-    if is_nonce_taken(v, p, kind, x) {
-        return Checked::Refused(Errno::ENOTUNIQ);
+    match child_nonce_check(v, p, kind, x) {
+        Checked::Refused(e) => {
+            return Checked::Refused(e);
+        }
+        Checked::Fine => {}
     }
     if INODE_SLOTS <= inodes::free_inode(v) {
         return Checked::Refused(Errno::ENOSPC);

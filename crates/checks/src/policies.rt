@@ -1,4 +1,5 @@
 // Set policy, get policy.
+use crate::shared;
 use errno::Checked;
 use errno::Errno;
 use lookup::entries;
@@ -10,40 +11,35 @@ use volume::Inode;
 use volume::InodeNumber;
 use volume::Volume;
 ghost use mathlib.Core.Path.{_≡_};
-ghost use Rattle.volume.specs.Checks.{isOtherPolicy, firstPolicyCheck, setPolicyCheck, getPolicyCheck};
+ghost use Rattle.volume.specs.Checks.{samePolicyCheck, firstPolicyCheck, setPolicyCheck, getPolicyCheck};
 
-// Whether an inode is encrypted under another policy.
-fn is_other_policy(node: Inode, p: Policy) -> bool
-    ensures { λ r. ⌜ r ≡ isOtherPolicy node p ⌝ }
+// The policy of an inode that has one: the same one is fine.
+fn same_policy_check(node: Inode, p: Policy) -> Checked
+    ensures { λ r. ⌜ r ≡ samePolicyCheck node p ⌝ }
 {
-    if !node.encrypted {
-        return false;
-    }
     let c = node.context;
     let own = c.policy;
-    !policy::same_policy(own, p)
-}
-
-// The end of set policy's table: an inode that is not encrypted yet.
-fn first_policy_check(v: Volume, i: InodeNumber, node: Inode, x: [u8; 16]) -> Checked
-    ensures { λ r. ⌜ r ≡ firstPolicyCheck v i node x ⌝ }
-{
-    if node.encrypted {
+    if policy::same_policy(own, p) {
         return Checked::Fine;
     }
+    Checked::Refused(Errno::EEXIST)
+}
+
+// The policy of an inode that has none yet.
+fn first_policy_check(v: Volume, i: InodeNumber, x: [u8; 16]) -> Checked
+    ensures { λ r. ⌜ r ≡ firstPolicyCheck v i x ⌝ }
+{
     if i.0 == 0 {
         return Checked::Refused(Errno::EPERM);
     }
+    let node = inodes::inode_at(v, i);
     if node.kind != DIRECTORY {
         return Checked::Refused(Errno::ENOTDIR);
     }
     if entries::has_entries(v, i) {
         return Checked::Refused(Errno::ENOTEMPTY);
     }
-    if inodes::is_borne(v, x) {
-        return Checked::Refused(Errno::ENOTUNIQ);
-    }
-    Checked::Fine
+    shared::nonce_check(v, x)
 }
 
 pub fn set_policy_check(v: Volume, i: InodeNumber, bytes: &[u8], x: [u8; 16]) -> Checked
@@ -62,10 +58,10 @@ pub fn set_policy_check(v: Volume, i: InodeNumber, bytes: &[u8], x: [u8; 16]) ->
         Checked::Fine => {}
     }
     let p = read.policy;
-    if is_other_policy(node, p) {
-        return Checked::Refused(Errno::EEXIST);
+    if node.encrypted {
+        return same_policy_check(node, p);
     }
-    first_policy_check(v, i, node, x)
+    first_policy_check(v, i, x)
 }
 
 pub fn get_policy_check(v: Volume, i: InodeNumber) -> Checked

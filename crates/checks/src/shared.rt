@@ -10,7 +10,7 @@ use volume::SYMLINK;
 use volume::Volume;
 ghost use mathlib.Core.Path.{_≡_};
 ghost use Rattle.volume.specs.Lookup.{inodeAt, lacksKey};
-ghost use Rattle.volume.specs.Checks.{directoryCheck, isPolicyRefused};
+ghost use Rattle.volume.specs.Checks.{directoryCheck, isPolicyRefused, nonceCheck};
 
 // Whether the key of this inode is needed and absent.
 pub fn lacks_key(v: Volume, p: InodeNumber) -> bool
@@ -61,6 +61,16 @@ pub fn directory_check(v: Volume, p: InodeNumber) -> Checked
     }
     if dir.kind != DIRECTORY {
         return Checked::Refused(Errno::ENOTDIR);
+    }
+    Checked::Fine
+}
+
+// The check of a nonce that is needed: no inode now there bears it.
+pub fn nonce_check(v: Volume, x: [u8; 16]) -> Checked
+    ensures { λ r. ⌜ r ≡ nonceCheck v x ⌝ }
+{
+    if inodes::is_borne(v, x) {
+        return Checked::Refused(Errno::ENOTUNIQ);
     }
     Checked::Fine
 }

@@ -14,7 +14,7 @@ use Rattle.volume.specs.Volume.{fresh, noKey}
 use Rattle.volume.specs.Request.{Request, addKey, removeKey, setPolicy, getPolicy, create, link, rename, exchange, remove, find, show, seal, unseal, Answer, refused, done, created, at, policyIs, shown}
 use Rattle.volume.specs.Lookup.{entryAt, keySlotOf, freeKeySlot, keyOf, keyPresent, lacksKey, freeInode, bearsNonce, nonceHolder, freeEntry, entryNamed, firstChild, firstLink, parentOf, climbFrom, isUnderItself}
 use Rattle.volume.specs.DirectoryNames.{derivedKey, nameKey, stored, readName, shownName, isUnreadable, formIn}
-use Rattle.volume.specs.Checks.{directoryCheck, isPolicyRefused, isBadKind, isBadKeyLength, isNonceNeeded, addKeyCheck, removeKeyCheck, setPolicyCheck, getPolicyCheck, removeCheck, exchangeCheck, blockCheck, createCheck, linkCheck, renameCheck, findCheck, showCheck}
+use Rattle.volume.specs.Checks.{directoryCheck, isPolicyRefused, isBadKind, isBadKeyLength, isNonceNeeded, nonceCheck, addKeyCheck, removeKeyCheck, setPolicyCheck, getPolicyCheck, removeCheck, exchangeCheck, blockCheck, createCheck, linkCheck, renameCheck, findCheck, showCheck}
 use Rattle.volume.specs.Step.{childOf, withoutUnheld, lent, check, effect, settle, step}
 use Rattle.volume.specs.Run.{Moment, momentOf, runFrom, run}
 use Rattle.volume.specs.declared.InodeNumber.{InodeNumber}
@@ -136,7 +136,7 @@ answers : map (λ (m : Moment). m .answer) (run small requests)
     ∷ done
     ∷ refused 2
     ∷ []
-unfolding moved back small inode entry seen nonce descriptor policy requests runFrom momentOf step settle lent check effect fresh childOf withoutUnheld _⇒_ _>>_ zeros firstAt same isPair isValid samePolicy isMasterKeySize nameKeySize policyBytes policyAt policyCheck readPolicy isDotName isBadName nameCheck rounded paddedLength padded encrypted beforeNul isAllNul paddingCheck readPadded letter letters hexDigit encoded keySlotOf freeKeySlot keyOf keyPresent lacksKey freeInode bearsNonce nonceHolder freeEntry entryNamed firstChild firstLink parentOf climbFrom isUnderItself directoryCheck isPolicyRefused isBadKind isBadKeyLength isNonceNeeded derivedKey nameKey stored readName shownName isUnreadable formIn addKeyCheck removeKeyCheck setPolicyCheck getPolicyCheck removeCheck exchangeCheck blockCheck createCheck linkCheck renameCheck findCheck showCheck
+unfolding moved back small inode entry seen nonce descriptor policy requests runFrom momentOf step settle lent check effect fresh childOf withoutUnheld _⇒_ _>>_ zeros firstAt same isPair isValid samePolicy isMasterKeySize nameKeySize policyBytes policyAt policyCheck readPolicy isDotName isBadName nameCheck rounded paddedLength padded encrypted beforeNul isAllNul paddingCheck readPadded letter letters hexDigit encoded keySlotOf freeKeySlot keyOf keyPresent lacksKey freeInode bearsNonce nonceHolder freeEntry entryNamed firstChild firstLink parentOf climbFrom isUnderItself directoryCheck isPolicyRefused isBadKind isBadKeyLength isNonceNeeded nonceCheck derivedKey nameKey stored readName shownName isUnreadable formIn addKeyCheck removeKeyCheck setPolicyCheck getPolicyCheck removeCheck exchangeCheck blockCheck createCheck linkCheck renameCheck findCheck showCheck
 answers = refl
 
 -- ---- what is written
@@ -177,7 +177,7 @@ bytes : map written (run small writes)
     ∷ (refused 2, 77, 77, 107)
     ∷ (refused 34, 77, 77, 107)
     ∷ []
-unfolding moved back small inode entry seen nonce descriptor policy writes written runFrom momentOf step settle lent check effect fresh childOf withoutUnheld _⇒_ _>>_ zeros firstAt same isPair isValid samePolicy isMasterKeySize nameKeySize policyBytes policyAt policyCheck readPolicy isDotName isBadName nameCheck rounded paddedLength padded encrypted beforeNul isAllNul paddingCheck readPadded letter letters hexDigit encoded keySlotOf freeKeySlot keyOf keyPresent lacksKey freeInode bearsNonce nonceHolder freeEntry entryNamed firstChild firstLink parentOf climbFrom isUnderItself directoryCheck isPolicyRefused isBadKind isBadKeyLength isNonceNeeded derivedKey nameKey stored readName shownName isUnreadable formIn addKeyCheck removeKeyCheck setPolicyCheck getPolicyCheck removeCheck exchangeCheck blockCheck createCheck linkCheck renameCheck findCheck showCheck
+unfolding moved back small inode entry seen nonce descriptor policy writes written runFrom momentOf step settle lent check effect fresh childOf withoutUnheld _⇒_ _>>_ zeros firstAt same isPair isValid samePolicy isMasterKeySize nameKeySize policyBytes policyAt policyCheck readPolicy isDotName isBadName nameCheck rounded paddedLength padded encrypted beforeNul isAllNul paddingCheck readPadded letter letters hexDigit encoded keySlotOf freeKeySlot keyOf keyPresent lacksKey freeInode bearsNonce nonceHolder freeEntry entryNamed firstChild firstLink parentOf climbFrom isUnderItself directoryCheck isPolicyRefused isBadKind isBadKeyLength isNonceNeeded nonceCheck derivedKey nameKey stored readName shownName isUnreadable formIn addKeyCheck removeKeyCheck setPolicyCheck getPolicyCheck removeCheck exchangeCheck blockCheck createCheck linkCheck renameCheck findCheck showCheck
 bytes = refl
 
 -- ---- where keys stand
@@ -191,5 +191,5 @@ slots m = (getD (getD (m .volume .keys) 0 noKey .descriptor) 0 0, getD (getD (m 
 
 -- "A new key .. takes the lowest free slot"
 lowest : map slots (run small keys) ≡ (7, 0) ∷ (7, 8) ∷ (0, 8) ∷ (9, 8) ∷ []
-unfolding moved back small inode entry seen nonce descriptor policy keys slots runFrom momentOf step settle lent check effect fresh childOf withoutUnheld _⇒_ _>>_ zeros firstAt same isPair isValid samePolicy isMasterKeySize nameKeySize policyBytes policyAt policyCheck readPolicy isDotName isBadName nameCheck rounded paddedLength padded encrypted beforeNul isAllNul paddingCheck readPadded letter letters hexDigit encoded keySlotOf freeKeySlot keyOf keyPresent lacksKey freeInode bearsNonce nonceHolder freeEntry entryNamed firstChild firstLink parentOf climbFrom isUnderItself directoryCheck isPolicyRefused isBadKind isBadKeyLength isNonceNeeded derivedKey nameKey stored readName shownName isUnreadable formIn addKeyCheck removeKeyCheck setPolicyCheck getPolicyCheck removeCheck exchangeCheck blockCheck createCheck linkCheck renameCheck findCheck showCheck
+unfolding moved back small inode entry seen nonce descriptor policy keys slots runFrom momentOf step settle lent check effect fresh childOf withoutUnheld _⇒_ _>>_ zeros firstAt same isPair isValid samePolicy isMasterKeySize nameKeySize policyBytes policyAt policyCheck readPolicy isDotName isBadName nameCheck rounded paddedLength padded encrypted beforeNul isAllNul paddingCheck readPadded letter letters hexDigit encoded keySlotOf freeKeySlot keyOf keyPresent lacksKey freeInode bearsNonce nonceHolder freeEntry entryNamed firstChild firstLink parentOf climbFrom isUnderItself directoryCheck isPolicyRefused isBadKind isBadKeyLength isNonceNeeded nonceCheck derivedKey nameKey stored readName shownName isUnreadable formIn addKeyCheck removeKeyCheck setPolicyCheck getPolicyCheck removeCheck exchangeCheck blockCheck createCheck linkCheck renameCheck findCheck showCheck
 lowest = refl

@@ -14,7 +14,7 @@ use Rattle.volume.specs.Volume.{fresh}
 use Rattle.volume.specs.Request.{Request, addKey, removeKey, setPolicy, create, rename, show, Answer, refused, done, created}
 use Rattle.volume.specs.Lookup.{keySlotOf, freeKeySlot, keyOf, keyPresent, lacksKey, freeInode, bearsNonce, nonceHolder, freeEntry, entryNamed, firstChild, firstLink, parentOf, climbFrom, isUnderItself}
 use Rattle.volume.specs.DirectoryNames.{derivedKey, nameKey, stored, readName, shownName, isUnreadable, formIn}
-use Rattle.volume.specs.Checks.{directoryCheck, isPolicyRefused, isBadKind, isBadKeyLength, isNonceNeeded, addKeyCheck, removeKeyCheck, setPolicyCheck, createCheck, renameCheck, showCheck}
+use Rattle.volume.specs.Checks.{directoryCheck, isPolicyRefused, isBadKind, isBadKeyLength, isNonceNeeded, nonceCheck, addKeyCheck, removeKeyCheck, setPolicyCheck, createCheck, renameCheck, showCheck}
 use Rattle.volume.specs.Step.{childOf, lent, check, effect, settle, step}
 use Rattle.volume.specs.Run.{Moment, momentOf, runFrom, run}
 use Rattle.volume.specs.GivenNames.{naming, named, namedBy, namesFrom, given}
@@ -70,7 +70,7 @@ answers : map told (run small requests)
     ∷ (done, 0, 5)
     ∷ (seen 1 2 2 Decrypted 1, 98, 5)
     ∷ []
-unfolding moved back small inode entry seen nonce descriptor policy key replaced requests told runFrom momentOf step settle lent check effect fresh childOf _⇒_ _>>_ zeros firstAt same isPair isValid samePolicy isMasterKeySize nameKeySize policyBytes policyAt policyCheck readPolicy isDotName isBadName nameCheck rounded paddedLength padded encrypted beforeNul isAllNul paddingCheck readPadded letter letters hexDigit encoded keySlotOf freeKeySlot keyOf keyPresent lacksKey freeInode bearsNonce nonceHolder freeEntry entryNamed firstChild firstLink parentOf climbFrom isUnderItself directoryCheck isPolicyRefused isBadKind isBadKeyLength isNonceNeeded derivedKey nameKey stored readName shownName isUnreadable formIn addKeyCheck removeKeyCheck setPolicyCheck createCheck renameCheck showCheck
+unfolding moved back small inode entry seen nonce descriptor policy key replaced requests told runFrom momentOf step settle lent check effect fresh childOf _⇒_ _>>_ zeros firstAt same isPair isValid samePolicy isMasterKeySize nameKeySize policyBytes policyAt policyCheck readPolicy isDotName isBadName nameCheck rounded paddedLength padded encrypted beforeNul isAllNul paddingCheck readPadded letter letters hexDigit encoded keySlotOf freeKeySlot keyOf keyPresent lacksKey freeInode bearsNonce nonceHolder freeEntry entryNamed firstChild firstLink parentOf climbFrom isUnderItself directoryCheck isPolicyRefused isBadKind isBadKeyLength isNonceNeeded nonceCheck derivedKey nameKey stored readName shownName isUnreadable formIn addKeyCheck removeKeyCheck setPolicyCheck createCheck renameCheck showCheck
 answers = refl
 
 -- what entry 1 was named, and under which key
@@ -79,9 +79,9 @@ noted rs = (given (run small rs) 1, namedUnder (run small rs) 1)
 
 -- the other keys that came and went count for nothing, and the rename's counts
 before-rename : noted (take 16 requests) ≡ (some (97 ∷ []), key 9)
-unfolding moved back small inode entry seen nonce descriptor policy key replaced requests noted namesFrom keysFrom namedBy naming named runFrom momentOf step settle lent check effect fresh childOf _⇒_ _>>_ zeros firstAt same isPair isValid samePolicy isMasterKeySize nameKeySize policyBytes policyAt policyCheck readPolicy isDotName isBadName nameCheck rounded paddedLength padded encrypted beforeNul isAllNul paddingCheck readPadded letter letters hexDigit encoded keySlotOf freeKeySlot keyOf keyPresent lacksKey freeInode bearsNonce nonceHolder freeEntry entryNamed firstChild firstLink parentOf climbFrom isUnderItself directoryCheck isPolicyRefused isBadKind isBadKeyLength isNonceNeeded derivedKey nameKey stored readName shownName isUnreadable formIn addKeyCheck removeKeyCheck setPolicyCheck createCheck renameCheck showCheck
+unfolding moved back small inode entry seen nonce descriptor policy key replaced requests noted namesFrom keysFrom namedBy naming named runFrom momentOf step settle lent check effect fresh childOf _⇒_ _>>_ zeros firstAt same isPair isValid samePolicy isMasterKeySize nameKeySize policyBytes policyAt policyCheck readPolicy isDotName isBadName nameCheck rounded paddedLength padded encrypted beforeNul isAllNul paddingCheck readPadded letter letters hexDigit encoded keySlotOf freeKeySlot keyOf keyPresent lacksKey freeInode bearsNonce nonceHolder freeEntry entryNamed firstChild firstLink parentOf climbFrom isUnderItself directoryCheck isPolicyRefused isBadKind isBadKeyLength isNonceNeeded nonceCheck derivedKey nameKey stored readName shownName isUnreadable formIn addKeyCheck removeKeyCheck setPolicyCheck createCheck renameCheck showCheck
 before-rename = refl
 
 after-rename : noted requests ≡ (some (98 ∷ []), key 5)
-unfolding moved back small inode entry seen nonce descriptor policy key replaced requests noted namesFrom keysFrom namedBy naming named runFrom momentOf step settle lent check effect fresh childOf _⇒_ _>>_ zeros firstAt same isPair isValid samePolicy isMasterKeySize nameKeySize policyBytes policyAt policyCheck readPolicy isDotName isBadName nameCheck rounded paddedLength padded encrypted beforeNul isAllNul paddingCheck readPadded letter letters hexDigit encoded keySlotOf freeKeySlot keyOf keyPresent lacksKey freeInode bearsNonce nonceHolder freeEntry entryNamed firstChild firstLink parentOf climbFrom isUnderItself directoryCheck isPolicyRefused isBadKind isBadKeyLength isNonceNeeded derivedKey nameKey stored readName shownName isUnreadable formIn addKeyCheck removeKeyCheck setPolicyCheck createCheck renameCheck showCheck
+unfolding moved back small inode entry seen nonce descriptor policy key replaced requests noted namesFrom keysFrom namedBy naming named runFrom momentOf step settle lent check effect fresh childOf _⇒_ _>>_ zeros firstAt same isPair isValid samePolicy isMasterKeySize nameKeySize policyBytes policyAt policyCheck readPolicy isDotName isBadName nameCheck rounded paddedLength padded encrypted beforeNul isAllNul paddingCheck readPadded letter letters hexDigit encoded keySlotOf freeKeySlot keyOf keyPresent lacksKey freeInode bearsNonce nonceHolder freeEntry entryNamed firstChild firstLink parentOf climbFrom isUnderItself directoryCheck isPolicyRefused isBadKind isBadKeyLength isNonceNeeded nonceCheck derivedKey nameKey stored readName shownName isUnreadable formIn addKeyCheck removeKeyCheck setPolicyCheck createCheck renameCheck showCheck
 after-rename = refl

@@ -2,25 +2,25 @@
 -- read these fields, so that a further line of a table changes one law here. Assumes nothing.
 use Prim.Native.Nat.{ℕ, _≤_, _<_}
 use native.Mathlib.Omega.{arith}
-use mathlib.Core.Path.{_≡_, refl, ap}
+use mathlib.Core.Path.{_≡_, refl, sym, _∙_}
 use mathlib.Core.Logic.{_≢_, _↔_}
 use mathlib.Core.Bool.{Bool, true, false, not, true≢false}
 use lib.Dec.{eqb, ltb}
 use borrow.Author.Tests.{ltb-false, leb-false}
 use Rattle.lists.specs.Bytes.{Bytes}
-use Rattle.lists.proofs.Tests.{not-false, and-known, or-left, or-right, eqb-true}
+use Rattle.lists.proofs.Tests.{not-false, if-true, if-false, and-known, or-left, or-right, eqb-true}
 use Rattle.errno.specs.Refusals.{_⇒_, _>>_}
 use Rattle.errno.specs.declared.Errno.{Errno}
 use Rattle.errno.specs.declared.Checked.{Checked}
 use Rattle.errno.specs.declared.Checked.the-variants.{Fine}
 use Rattle.errno.proofs.Chains.{passed}
-use Rattle.policy.specs.Policies.{policyCheck, readPolicy}
+use Rattle.policy.specs.Policies.{samePolicy, policyCheck, readPolicy}
 use Rattle.fscrypt.specs.Cipher.{Cipher}
 use Rattle.fscrypt.specs.Names.{nameCheck}
 use Rattle.volume.specs.Volume.{keySlots, inodeSlots, entrySlots, nameOf}
 use Rattle.volume.specs.Lookup.{keySlotOf, freeKeySlot, keyPresent, lacksKey, inodeAt, freeInode, isBorne, entryAt, isVacant, freeEntry, entryNamed, isTaken, hasEntries, isUnderItself}
 use Rattle.volume.specs.DirectoryNames.{stored, isUnreadable}
-use Rattle.volume.specs.Checks.{directoryCheck, isBadKind, isBadKeyLength, isNonceNeeded, isOtherPolicy, addKeyCheck, removeKeyCheck, setPolicyCheck, createCheck, linkCheck, renameCheck, exchangeCheck, removeCheck, findCheck, showCheck, blockCheck}
+use Rattle.volume.specs.Checks.{directoryCheck, isBadKind, isBadKeyLength, isNonceNeeded, nonceCheck, addKeyCheck, removeKeyCheck, setPolicyCheck, createCheck, linkCheck, renameCheck, exchangeCheck, removeCheck, findCheck, showCheck, blockCheck}
 use Rattle.volume.specs.Sound.{MayHold}
 use Rattle.volume.specs.declared.InodeNumber.{InodeNumber}
 use Rattle.volume.specs.declared.EntryNumber.{EntryNumber}
@@ -51,6 +51,10 @@ pub key-present : (v : Volume) (node : Inode) → node .encrypted ≡ true → l
 unfolding lacksKey
 key-present v node e h = not-false (and-known e h)
 
+nonce-passed : (v : Volume) (x : Bytes) → nonceCheck v x ≡ Fine → isBorne v x ≡ false
+unfolding nonceCheck
+nonce-passed v x h = (simp (line, test) at h) .0
+
 -- ---- keys
 
 pub record AddKeyPassed (v : Volume) (d : Bytes) (n : ℕ) : Type 0 where
@@ -80,20 +84,20 @@ pub record FirstPolicyPassed (v : Volume) (i : InodeNumber) (x : Bytes) : Type 0
 pub record SetPolicyPassed (v : Volume) (i : InodeNumber) (p x : Bytes) : Type 0 where
   pub inode : (inodeAt v i) .kind ≢ 0
   pub policy : policyCheck p ≡ Fine
-  pub same : isOtherPolicy (inodeAt v i) ((readPolicy p) .policy) ≡ false
+  pub same : (inodeAt v i) .encrypted ≡ true → samePolicy ((inodeAt v i) .context .policy) ((readPolicy p) .policy) ≡ true
   pub first : (inodeAt v i) .encrypted ≡ false → FirstPolicyPassed v i x
 
 pub set-policy-passed : (v : Volume) (i : InodeNumber) (p x : Bytes) → setPolicyCheck v i p x ≡ Fine → SetPolicyPassed v i p x
 unfolding setPolicyCheck
 set-policy-passed v i p x h =
-    let (inode, (policy, (same, (root, (dir, (empty, (nonce, end))))))) = simp (line, test) at h in
+    let (inode, (policy, last)) = simp (line, test) at h in
     record {
       inode = not-eqb inode;
       policy = policy;
-      same = same;
+      same = λ bears. not-false ((simp (line, test) at (sym (if-true _ _ bears) ∙ last)) .0);
       first = λ plain.
-          let t : not ((inodeAt v i) .encrypted) ≡ true = ap not plain in
-          record { not-root = not-eqb (and-known t root); directory = eqb-true (not-false (and-known t dir)); empty = and-known t empty; nonce = and-known t nonce };
+          let (root, (dir, (empty, nonce))) = simp (line, test) at (sym (if-false _ _ plain) ∙ last) in
+          record { not-root = not-eqb root; directory = eqb-true (not-false dir); empty = empty; nonce = nonce-passed v x nonce };
     }
 
 -- ---- entries
@@ -171,7 +175,7 @@ module _ (C : Cipher) (v : Volume) where
         directory = is-directory v p dir;
         key = key;
         free-name = free;
-        nonce = λ t. and-known t nonce;
+        nonce = λ t. nonce-passed v x (sym (if-true _ _ t) ∙ nonce);
         inode-room = leb-false inodeSlots (freeInode v) inode;
         entry-room = leb-false entrySlots (freeEntry v) entry;
       }

@@ -72,6 +72,11 @@ unfolding _>>_
 part (both-refuse e t) f = both-refuse e t
 part (both-fine p) f = f p
 
+-- a table at the end
+pub last : {P Q : Type 0} {a b : Checked} → Alike P a b → (P → Q) → Alike Q a b
+last (both-refuse e t) f = both-refuse e t
+last (both-fine p) f = both-fine (f p)
+
 -- ---- the volume that a run has where the identity run has v
 
 -- the directory that an entry stands in

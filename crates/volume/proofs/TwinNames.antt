@@ -8,12 +8,13 @@ use lib.ListN.{getD, set}
 use lib.Seq.{getD-set-other}
 use lib.Dec.{leb, ltb}
 use Rattle.lists.specs.Bytes.{Bytes, ByteList, firstAt}
+use Rattle.errno.specs.declared.Checked.the-variants.{Fine}
 use Rattle.policy.specs.Policies.{policyCheck, readPolicy}
 use Rattle.volume.specs.Volume.{entrySlots, noInode, plainInode, encryptedInode, entrySlot}
 use Rattle.volume.specs.Request.{setPolicy, create, link, rename, done, created, at, outcome}
 use Rattle.volume.specs.Lookup.{lacksKey, inodeAt, isFree, freeInode, nonceHolder, entryAt, isVacant, freeEntry, hasEntries, isUnderItself}
 use Rattle.volume.specs.DirectoryNames.{stored}
-use Rattle.volume.specs.Checks.{isPolicyRefused, isNonceNeeded, setPolicyCheck, createCheck, linkCheck, renameCheck}
+use Rattle.volume.specs.Checks.{isPolicyRefused, isNonceNeeded, nonceCheck, samePolicyCheck, firstPolicyCheck, setPolicyCheck, createCheck, linkCheck, renameCheck}
 use Rattle.volume.specs.Step.{withInodes, withEntries, childOf, check, effect}
 use Rattle.volume.specs.Sound.{slotAt, Used, dirOf}
 use Rattle.volume.specs.GivenNames.{Names, namedBy, naming, named}
@@ -26,7 +27,7 @@ use Rattle.volume.specs.declared.Volume.{Volume}
 use Rattle.volume.proofs.SoundInvariant.{one≢zero}
 use Rattle.volume.proofs.SoundCreate.{free-kept}
 use Rattle.volume.proofs.SoundCore.{none-in}
-use Rattle.volume.proofs.Twin.{Setting, Alike, test, part, both-fine, encKey, dirIn, encEntry, enc, InodeOk, Inv, StepTwin, Same}
+use Rattle.volume.proofs.Twin.{Setting, Alike, test, part, last, both-fine, encKey, dirIn, encEntry, enc, InodeOk, Inv, StepTwin, Same}
 use Rattle.volume.proofs.TwinLookup.{needed-twin, entry-twin, free-entry-twin, child-twin, under-twin, entryNamed-twin, name-part, directory-part}
 use Rattle.volume.proofs.TwinStore.{nonces-set, kept-inv, kept-enc, store-inv, store-enc}
 
@@ -38,18 +39,16 @@ module _ (S : Setting) {g : Names} (v : Volume) (ok : Inv S g v) where
       test _ tt refl λ h₂.
       both-fine tt
 
+  nonce-part : (x : Bytes) → Alike (Unit {0}) (nonceCheck (enc S v) x) (nonceCheck v x)
+  unfolding nonceCheck nonceHolder
+  nonce-part x = test _ tt refl λ h. both-fine tt
+
   pub setPolicy-twin : (i : InodeNumber) (p x : Bytes) → ByteList x → Same S g v (setPolicy i p x) (setPolicy i p x)
-  unfolding Same check effect setPolicyCheck nonceHolder namedBy naming named blankBuffer
+  unfolding Same check effect setPolicyCheck namedBy naming named blankBuffer
   setPolicy-twin i p x xb =
-      let node = inodeAt v i in
       test _ tt refl λ h₁.
       part (policy-part p) λ h₂.
-      test _ tt refl λ h₃.
-      test _ tt refl λ h₄.
-      test _ tt refl λ h₅.
-      test _ tt (ap (λ (n : ℕ). not (node .encrypted) && ltb n entrySlots) (child-twin S v ok i)) λ h₆.
-      test _ tt refl λ h₇.
-      both-fine (go (node .encrypted) h₆)
+      go (inodeAt v i .encrypted)
     where
       is′ : List Inode
       is′ = set (v .inodes) (i .0) (encryptedInode 1 ((readPolicy p) .policy) x)
@@ -61,10 +60,17 @@ module _ (S : Setting) {g : Names} (v : Volume) (ok : Inv S g v) where
           → dirIn is′ (slotAt v j) ≡ dirOf v j
       kept h j u = getD-set-other (v .inodes) (i .0) ((slotAt v j) .parent .0) _ noInode (none-in v (ok .sized) i h j u)
 
-      go : (c : Bool) → (not c && hasEntries v i) ≡ false
-          → StepTwin S (setPolicy i p x) g (outcome done [] (cond c (enc S v) (withInodes (enc S v) is′))) (outcome done [] (cond c v (withInodes v is′)))
-      go true h = record { answers = refl; buffers = refl; volumes = refl; inv = ok; right = tt }
-      go false h = record { answers = refl; buffers = refl; volumes = kept-enc S v ok is′ nonces (kept h); inv = kept-inv S v ok is′ nonces (kept h); right = tt }
+      -- by whether the inode is encrypted: its policy is compared, or it gets its first one
+      go : (c : Bool)
+          → Alike (StepTwin S (setPolicy i p x) g (outcome done [] (cond c (enc S v) (withInodes (enc S v) is′))) (outcome done [] (cond c v (withInodes v is′))))
+          (cond c (samePolicyCheck (inodeAt v i) ((readPolicy p) .policy)) (firstPolicyCheck (enc S v) i x))
+          (cond c (samePolicyCheck (inodeAt v i) ((readPolicy p) .policy)) (firstPolicyCheck v i x))
+      go true = test _ tt refl λ h. both-fine (record { answers = refl; buffers = refl; volumes = refl; inv = ok; right = tt })
+      go false =
+          test _ tt refl λ h₁.
+          test _ tt refl λ h₂.
+          test _ tt (ap (λ (n : ℕ). ltb n entrySlots) (child-twin S v ok i)) λ h₃.
+          last (nonce-part x) (λ u. record { answers = refl; buffers = refl; volumes = kept-enc S v ok is′ nonces (kept h₃); inv = kept-inv S v ok is′ nonces (kept h₃); right = tt })
 
   child-ok : (dir : Inode) (kind : ℕ) (x : Bytes) → ByteList x → InodeOk S (childOf dir kind x)
   unfolding childOf
@@ -75,14 +81,14 @@ module _ (S : Setting) {g : Names} (v : Volume) (ok : Inv S g v) where
       go false = λ u. absurd (false≢true u)
 
   pub create-twin : (p : InodeNumber) (kind : ℕ) (n x : Bytes) → ByteList n → ByteList x → Same S g v (create p kind n x) (create p kind n x)
-  unfolding Same check effect createCheck nonceHolder freeInode namedBy naming named blankBuffer
+  unfolding Same check effect createCheck freeInode namedBy naming named blankBuffer
   create-twin p kind n x nb xb =
       part (name-part S v ok n) λ plain.
       test _ tt refl λ h₁.
       part (directory-part S v ok p) λ dir.
       test _ tt (needed-twin S v ok (inodeAt v p)) λ key.
       test _ tt (ap (λ (m : ℕ). ltb m entrySlots) (entryNamed-twin S v ok p n key nb)) λ h₂.
-      test _ tt refl λ h₃.
+      part (needed-nonce (isNonceNeeded (inodeAt v p) kind)) λ h₃.
       test _ tt refl λ h₄.
       test _ tt (ap (leb entrySlots) (free-entry-twin S v ok)) λ h₅.
       let e : EntryNumber = record { 0 = freeEntry v } in
@@ -99,6 +105,10 @@ module _ (S : Setting) {g : Names} (v : Volume) (ok : Inv S g v) where
         right = tt;
       })
     where
+      needed-nonce : (c : Bool) → Alike (Unit {0}) (cond c (nonceCheck (enc S v) x) Fine) (cond c (nonceCheck v x) Fine)
+      needed-nonce true = nonce-part x
+      needed-nonce false = both-fine tt
+
       i : InodeNumber
       i = record { 0 = firstAt isFree (v .inodes) }
 

@@ -1,7 +1,7 @@
 -- When a request is refused, and with what: for each request its checks, in document 01's order.
 -- Sentences in quotation marks are document 01's, in its words. Assumes nothing.
 use Prim.Native.Nat.{ℕ}
-use mathlib.Core.Bool.{Bool, not, _&&_, _||_}
+use mathlib.Core.Bool.{Bool, cond, not, _&&_, _||_}
 use lib.Dec.{eqb, leb, ltb}
 use Rattle.lists.specs.Bytes.{Bytes}
 use Rattle.errno.specs.Refusals.{_⇒_, _>>_}
@@ -50,6 +50,12 @@ isBadKeyLength n = not (eqb n 16 || (eqb n 32 || (eqb n 48 || eqb n 64)))
 unfoldable pub isNonceNeeded : Inode → ℕ → Bool
 isNonceNeeded dir kind = dir .encrypted && leb kind 3
 
+-- "ENOTUNIQ 76 | nonce needed, and borne by a thing now there" (document 01): the check of a nonce that is needed
+unfoldable pub nonceCheck : Volume → Bytes → Checked
+nonceCheck v x = do
+  isBorne v x ⇒ ENOTUNIQ
+  Fine
+
 -- ---- the requests
 
 -- "Add key: length, descriptor, room."
@@ -66,18 +72,19 @@ removeKeyCheck v d = do
   leb keySlots (keySlotOf v d) ⇒ ENOKEY
   Fine
 
--- the inode is encrypted under another policy
-abbrev pub isOtherPolicy : Inode → Policy → Bool
-isOtherPolicy node p = node .encrypted && not (samePolicy (node .context .policy) p)
+-- ".. if encrypted: equal is a success that changes nothing, else EEXIST" (document 01)
+abbrev pub samePolicyCheck : Inode → Policy → Checked
+samePolicyCheck node p = do
+  not (samePolicy (node .context .policy) p) ⇒ EEXIST
+  Fine
 
 -- ".. then root, non-folder, nonempty, nonce" (document 01)
-abbrev pub firstPolicyCheck : Volume → InodeNumber → Inode → Bytes → Checked
-firstPolicyCheck v i node x = do
-  not (node .encrypted) && eqb (i .0) 0 ⇒ EPERM
-  not (node .encrypted) && not (isDirectory node) ⇒ ENOTDIR
-  not (node .encrypted) && hasEntries v i ⇒ ENOTEMPTY
-  not (node .encrypted) && isBorne v x ⇒ ENOTUNIQ
-  Fine
+abbrev pub firstPolicyCheck : Volume → InodeNumber → Bytes → Checked
+firstPolicyCheck v i x = do
+  eqb (i .0) 0 ⇒ EPERM
+  not (isDirectory (inodeAt v i)) ⇒ ENOTDIR
+  hasEntries v i ⇒ ENOTEMPTY
+  nonceCheck v x
 
 -- document 01: "Set policy: thing, policy bytes, then if encrypted: equal is a success that changes nothing, else EEXIST; then root, non-folder, nonempty, nonce."
 unfoldable pub setPolicyCheck : Volume → InodeNumber → Bytes → Bytes → Checked
@@ -85,8 +92,7 @@ setPolicyCheck v i p x =
     let node = inodeAt v i in do
       isFree node ⇒ ENOENT
       policyCheck p
-      isOtherPolicy node ((readPolicy p) .policy) ⇒ EEXIST
-      firstPolicyCheck v i node x
+      cond (node .encrypted) (samePolicyCheck node ((readPolicy p) .policy)) (firstPolicyCheck v i x)
 
 -- "Get policy: thing, context."
 unfoldable pub getPolicyCheck : Volume → InodeNumber → Checked
@@ -139,7 +145,7 @@ blockCheck v i n =
 -- ".. nonce; room": the end of create's table
 abbrev pub roomCheck : Volume → InodeNumber → ℕ → Bytes → Checked
 roomCheck v p kind x = do
-  isNonceNeeded (inodeAt v p) kind && isBorne v x ⇒ ENOTUNIQ
+  cond (isNonceNeeded (inodeAt v p) kind) (nonceCheck v x) Fine
   leb inodeSlots (freeInode v) ⇒ ENOSPC
   leb entrySlots (freeEntry v) ⇒ ENOSPC
   Fine

@@ -4,11 +4,17 @@ use borrow.Author.Needs.{needs}
 use Rattle.checks.proofs.directory.room_check.Statement.{statement}
 use Rattle.checks.proofs.directory.room_check.Tie as tie
 
-is-nonce-taken-requires : tie.Need-is-nonce-taken-requires
-is-nonce-taken-requires c κs = search needs
+child-nonce-check-requires : tie.Need-child-nonce-check-requires
+child-nonce-check-requires c κs = search needs
+
+enum-known-e : tie.Need-enum-known-e
+enum-known-e c = search needs
 
 returns : tie.Need-returns
 returns c = search calls depth 25
+
+enum-told : tie.Need-enum-told
+enum-told c = search needs
 
 free-inode-requires : tie.Need-free-inode-requires
 free-inode-requires c κs = search needs
@@ -29,8 +35,10 @@ pub room-check-spec : {M : Type 1} → statement M
 room-check-spec =
     tie.close
     (tie.spec
-    is-nonce-taken-requires
+    child-nonce-check-requires
+    enum-known-e
     returns
+    enum-told
     free-inode-requires
     returns-2
     free-entry-requires

@@ -1,6 +1,6 @@
 -- `set_policy_check` is `setPolicyCheck`: line by line of its table, on the inode that was looked up and the policy that was read. Assumes nothing.
 use Rattle.volume.specs.Checks.{setPolicyCheck}
-use Rattle.checks.proofs.Lines.{lines}
+use Rattle.checks.proofs.Lines.{lines, line-so, line-not, policy-set}
 use borrow.Author.Needs.{needs}
 use Rattle.checks.proofs.policies.set_policy_check.Statement.{statement}
 use Rattle.checks.proofs.policies.set_policy_check.Tie as tie
@@ -25,19 +25,23 @@ returns-2 c = search lines depth 25
 enum-told : tie.Need-enum-told
 enum-told c = search needs
 
-is-other-policy-requires : tie.Need-is-other-policy-requires
-is-other-policy-requires c κs = search needs
+same-policy-check-requires : tie.Need-same-policy-check-requires
+same-policy-check-requires c κs = search needs
 
 returns-3 : tie.Need-returns-3
-unfolding setPolicyCheck
-returns-3 c = rw (← c .before .before .before .before .before .before .before .before .inode-at .ensures, ← c .before .before .before .before .before .read-policy .ensures) (search lines depth 25)
+returns-3 c =
+    let n = c .before .before .before .before .before .before .before .before .inode-at in
+    let p = c .before .before .before .before .before .read-policy in
+    policy-set _ _ _ _ (n .result) (p .result) (n .ensures) (p .ensures) (c .before .before .before .before .before .before .if1 .left) (c .before .before .before .enum-told .given .1) _ (line-so _ _ _ _ (c .before .if2 .taken) (c .same-policy-check .ensures))
 
 first-policy-check-requires : tie.Need-first-policy-check-requires
 first-policy-check-requires c κs = search needs
 
 returns-4 : tie.Need-returns-4
-unfolding setPolicyCheck
-returns-4 c = rw (← c .before .before .before .before .before .before .before .before .before .inode-at .ensures, ← c .before .before .before .before .before .before .read-policy .ensures) (search lines depth 25)
+returns-4 c =
+    let n = c .before .before .before .before .before .before .before .before .inode-at in
+    let p = c .before .before .before .before .before .read-policy in
+    policy-set _ _ _ _ (n .result) (p .result) (n .ensures) (p .ensures) (c .before .before .before .before .before .before .if1 .left) (c .before .before .before .enum-told .given .1) _ (line-not _ _ _ _ (c .before .if2 .left) (c .first-policy-check .ensures))
 
 pub set-policy-check-spec : {M : Type 1} → statement M
 set-policy-check-spec =
@@ -49,7 +53,7 @@ set-policy-check-spec =
     enum-known-checked
     returns-2
     enum-told
-    is-other-policy-requires
+    same-policy-check-requires
     returns-3
     first-policy-check-requires
     returns-4)
