@@ -1,8 +1,8 @@
 -- Each transformation of FIPS 197 is undone by its inverse, and InvCipher and Cipher undo each other, for any number of rounds and any key schedule of bytes.
 -- Assumes nothing.
-use mathlib.Core.Path.{_≡_, refl, sym, ap, _∙_}
+use mathlib.Core.Path.{_≡_, refl, ap, _∙_}
 use mathlib.Core.List.{List}
-use Prim.Native.Nat.{ℕ, zero, suc, _-_, _<_}
+use Prim.Native.Nat.{ℕ, zero, suc, _-_}
 use Rattle.field.specs.Field.{_⊕_}
 use Rattle.lists.specs.Bytes.{ByteList}
 use Rattle.aes.specs.Words.{mixColumn, invMixColumn, subWord, invSubWord, addWord}
@@ -13,7 +13,7 @@ use Rattle.aes.specs.declared.State.{State}
 use Rattle.field.proofs.Xor.{⊕-assoc, ⊕-self, ⊕-zero}
 use Rattle.field.proofs.Boxes.{invSBox-sBox, sBox-invSBox}
 use Rattle.aes.proofs.Columns.{mix, invMix, mixed, mixColumn-mixed, invMixColumn-mixed, unmixed, remixed}
-use Rattle.aes.proofs.ByteStates.{ByteWord, ByteState, mixColumn-bytes, invMixColumn-bytes, subBytes-bytes, shiftRows-bytes, mixColumns-bytes, addRoundKey-bytes, invShiftRows-bytes, invSubBytes-bytes, invMixColumns-bytes, roundKey-bytes, rounds-bytes, invRound-bytes, invRounds-bytes}
+use Rattle.aes.proofs.ByteStates.{ByteWord, ByteState, mixColumn-bytes, invMixColumn-bytes, subBytes-bytes, shiftRows-bytes, mixColumns-bytes, addRoundKey-bytes, invShiftRows-bytes, invSubBytes-bytes, roundKey-bytes, rounds-bytes, invRound-bytes}
 
 -- ---- words
 

@@ -27,9 +27,6 @@ module _ (A l : List ℕ) (n : ℕ) (e : length A ≡ n) where
   unfolding stateAt
   seam-at j h = cc (word-seam j h, word-seam (j + 4) (omega arith), word-seam (j + 8) (omega arith), word-seam (j + 12) (omega arith))
 
-  state-seam : stateAt (A ++ drop n l) n ≡ stateAt l n
-  state-seam = seam-at n (omega arith)
-
   pub put-seam : (xs : List ℕ) → putAt (A ++ drop n l) n xs ≡ (A ++ xs) ++ drop (n + length xs) l
   unfolding putAt
   put-seam xs =

@@ -36,8 +36,6 @@ inverse-affine-all b h = at inverse-affine invSBoxTable tt b h
 pub invSBox-is : (b : ℕ) → b < 256 → invSBox b ≡ inverse (invAffine b)
 unfolding invSBox inverse-affine
 invSBox-is b h =
-    let x : ℕ = getD invSBoxTable b 0 in
-    let y : ℕ = getD inverses (invAffine b) 0 in
     let small : invAffine b < 256 = ltb→lt _ _ (both-right (eqb (getD invSBoxTable b 0) (getD inverses (invAffine b) 0)) (ltb (invAffine b) 256) (inverse-affine-all b h)) in
     eqb→eq (getD invSBoxTable b 0) (getD inverses (invAffine b) 0) (both-left (eqb (getD invSBoxTable b 0) (getD inverses (invAffine b) 0)) (ltb (invAffine b) 256) (inverse-affine-all b h))
     ∙ sym (inverse-is (invAffine b) small)

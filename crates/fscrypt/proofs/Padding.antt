@@ -3,24 +3,21 @@
 use Prim.Native.Nat.{ℕ, zero, suc, _-_, _≤_, _<_}
 use native.Mathlib.Omega.{arith}
 use mathlib.Core.Path.{_≡_, refl, _∙_, ap}
-use mathlib.Core.Bool.{Bool, true, false, cond, not, _||_}
+use mathlib.Core.Bool.{Bool, true, false, cond, _||_}
 use mathlib.Core.List.{[], _∷_, _++_}
 use lib.ListN.{length, take, drop, length-append, length-replicate}
-use lib.Seq.{take-append-seam, drop-append-seam, length-take-le}
+use lib.Seq.{take-append-seam, drop-append-seam}
 use lib.Dec.{eqb, leb, ltb}
 use borrow.Author.Tests.{leb-true, leb-false, ltb-false, le-leb}
 use Rattle.lists.specs.Bytes.{Bytes, ByteList, zeros, firstAt, isEmpty}
 use Rattle.lists.proofs.ByteStrings.{append-bytes, zeros-bytes}
 use Rattle.lists.proofs.Tests.{or-left, eqb-self}
-use Rattle.errno.specs.Refusals.{_⇒_, _>>_, isFine}
-use Rattle.errno.specs.declared.Errno.the-variants.{ENOENT, ENAMETOOLONG, EINVAL, EUCLEAN}
-use Rattle.errno.specs.declared.Checked.{Checked}
-use Rattle.errno.specs.declared.Checked.the-variants.{Fine, Refused}
+use Rattle.errno.specs.Refusals.{_⇒_, _>>_}
+use Rattle.errno.specs.declared.Errno.the-variants.{ENOENT, ENAMETOOLONG, EINVAL}
+use Rattle.errno.specs.declared.Checked.the-variants.{Fine}
 use Rattle.errno.proofs.Chains.{passed-test}
 use Rattle.fscrypt.specs.Cipher.{Cipher, Lawful}
 use Rattle.fscrypt.specs.Names.{isLong, isNul, isNulOrSlash, isNotNul, isDotName, isBadName, nameCheck, multiple, rounded, paddedLength, padded, encrypted, beforeNul, isAllNul, paddingCheck, readPadded, nameBytes, packed}
-use Rattle.fscrypt.specs.declared.Name.{Name}
-use Rattle.fscrypt.specs.declared.NameRead.{NameRead}
 
 -- ---- padded lengths
 
@@ -149,28 +146,7 @@ pub read-stored : (C : Cipher) → Lawful C → (key : Bytes) (flags : ℕ) (n :
 unfolding encrypted
 read-stored C L key flags n hk hn h = ap (readPadded flags) (L .decrypt-encrypt key (padded flags n) hk (padded-bytes flags n hn)) ∙ readPadded-padded flags n h
 
--- what is read says whether the padding was right
-abbrev read : Checked → Name → NameRead
-read k x = record { checked = k; name = x }
-
-told : (a b c : Bool) (x y : Name)
-    → (cond (isFine (_>>_ (a ⇒ EUCLEAN) (_>>_ (b ⇒ EUCLEAN) (_>>_ (c ⇒ EUCLEAN) Fine)))) (read Fine x) (read (Refused EUCLEAN) y)) .checked
-    ≡ _>>_ (a ⇒ EUCLEAN) (_>>_ (b ⇒ EUCLEAN) (_>>_ (c ⇒ EUCLEAN) Fine))
-unfolding _>>_ _⇒_
-told true b c x y = refl
-told false true c x y = refl
-told false false true x y = refl
-told false false false x y = refl
-
-pub readPadded-checked : (flags : ℕ) (b : Bytes) → (readPadded flags b) .checked ≡ paddingCheck flags b
-unfolding readPadded paddingCheck
-readPadded-checked flags b =
-    told (not (isAllNul (drop (firstAt isNul b) b))) (not (isFine (nameCheck (beforeNul b)))) (not (eqb (paddedLength flags (length (beforeNul b))) (length b))) (packed (beforeNul b)) (packed [])
-
 -- ---- names by value
 
 pub nameBytes-packed : (s : Bytes) → nameBytes (packed s) ≡ s
 nameBytes-packed s = take-append-seam s (zeros (255 - length s))
-
-pub length-nameBytes : (n : Name) → length (n .bytes) ≡ 255 → n .len ≤ 255 → length (nameBytes n) ≡ n .len
-length-nameBytes n h l = length-take-le (n .len) (n .bytes) (omega arith)

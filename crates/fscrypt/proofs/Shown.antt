@@ -1,12 +1,12 @@
 -- A stored name as it is shown without its key: its length, that its bytes are those of a plain name, and what of it does not depend on the stored bytes.
 -- Every letter and hex digit is a fair byte, and so is each byte of a list made of them. Assumes nothing.
 use Rattle.lists.proofs.Digits.{hex-low, hex-high}
-use mathlib.Core.Path.{_≡_, refl, sym, ap, ap₂, _∙_}
+use mathlib.Core.Path.{_≡_, refl, ap, ap₂, _∙_}
 use mathlib.Core.List.{[], _∷_, _++_}
-use Prim.Native.Nat.{ℕ, zero, suc, _+_, _-_, _*_, _/_, _%_, _≤_, _<_}
+use Prim.Native.Nat.{ℕ, zero, suc, _+_, _*_, _/_, _%_, _≤_, _<_}
 use native.Mathlib.Decide.{decLt}
 use native.Mathlib.Omega.{arith}
-use lib.ListN.{length, take, getD, length-append, List·getD-eq-default}
+use lib.ListN.{length, take, getD, length-append}
 use lib.Seq.{getD-append-add}
 use Rattle.lists.specs.Bytes.{Bytes, ByteList, hexDigit}
 use Rattle.lists.proofs.ByteStrings.{take-bytes}
@@ -41,10 +41,9 @@ length-encoded s t e h = elim (decLt 160 (length s)) [
 record Fair (x : ℕ) : Type 0 where
   pub nul : x ≡ 0 → ⊥
   pub slash : x ≡ 47 → ⊥
-  pub small : x < 256
 
 fair-at : (x y : ℕ) → y ≡ x → 43 ≤ y → y < 123 → (y ≡ 47 → ⊥) → Fair x
-fair-at x y e g h n = record { nul = λ z. omega arith; slash = λ z. n (e ∙ z); small = omega arith }
+fair-at x y e g h n = record { nul = λ z. omega arith; slash = λ z. n (e ∙ z) }
 
 letter-fair : (n : ℕ) → n < 64 → Fair (letter n)
 letter-fair n h = elim (decLt n 26) [
@@ -114,25 +113,9 @@ pub encoded-fair : (s : Bytes) (e : ℕ) → ByteList s → (i : ℕ) → i < le
 unfolding AllFair
 encoded-fair s e h i k = let f = all-fair s e h i k in (f .nul, f .slash)
 
-pub encoded-bytes : (s : Bytes) (e : ℕ) → ByteList s → ByteList (encoded s e)
-unfolding AllFair
-encoded-bytes s e h i = elim (decLt i (length (encoded s e))) [
-  | yes g ↦ (all-fair s e h i g) .small
-  | no g ↦ omega (arith, List·getD-eq-default (encoded s e) 0 {n = i} (omega (arith, g)))
-]
-
 -- ---- what does not depend on the stored bytes
 
 pub long-mark : (s : Bytes) (e k : ℕ) → 160 < length s → getD (encoded s e) (215 + k) 0 ≡ getD (marks e) k 0
 long-mark s e k h =
     let n : 215 + k ≡ suc (length (letters (take 160 s)) + k) = omega (arith, length-front s h) in
     ap₂ (λ (l : Bytes) (i : ℕ). getD l i 0) (encoded-long s e h) n ∙ getD-append-add (letters (take 160 s)) (marks e) k 0
-
--- of a long name the first byte, and the last two (k at 0 and 1)
-pub encoded-marks : (s t : Bytes) (e : ℕ) → length s ≡ length t → 160 < length s
-    → (getD (encoded s e) 0 0 ≡ getD (encoded t e) 0 0) × ((k : ℕ) → getD (encoded s e) (215 + k) 0 ≡ getD (encoded t e) (215 + k) 0)
-encoded-marks s t e l h =
-    let g : 160 < length t = omega arith in (
-      ap (λ (x : Bytes). getD x 0 0) (encoded-long s e h) ∙ sym (ap (λ (x : Bytes). getD x 0 0) (encoded-long t e g)),
-      λ k. long-mark s e k h ∙ sym (long-mark t e k g),
-    )

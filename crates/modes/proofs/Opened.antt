@@ -1,22 +1,22 @@
--- XTS: decryption and encryption undo each other, for any number of rounds and of blocks; lengths are kept, and results are bytes. Assumes nothing.
-use mathlib.Core.Path.{_≡_, refl, sym, ap, ap₂, _∙_}
+-- XTS: decryption and encryption undo each other, for any number of rounds and of blocks; lengths are kept. Assumes nothing.
+use mathlib.Core.Path.{_≡_, refl, ap, _∙_}
 use mathlib.Core.List.{List}
-use Prim.Native.Nat.{ℕ, zero, suc, _+_, _*_, _/_, _%_, _≤_, _<_}
+use Prim.Native.Nat.{ℕ, zero, suc, _*_, _/_, _<_}
 use native.Mathlib.Omega.{arith}
 use lib.Dec.{lit<}
-use lib.ListN.{length, getD}
+use lib.ListN.{length}
 use Rattle.aes.specs.States.{addRoundKey, stateAt}
 use Rattle.lists.specs.Bytes.{ByteList}
 use Rattle.aes.specs.Cipher.{cipher, invCipher}
 use Rattle.aes.specs.declared.Word.{Word}
 use Rattle.aes.specs.declared.State.{State}
 use Rattle.field.proofs.Xor.{⊕-lt}
-use Rattle.aes.proofs.ByteStates.{ByteWord, ByteState, addRoundKey-bytes, cipher-bytes, invCipher-bytes}
+use Rattle.aes.proofs.ByteStates.{ByteWord, ByteState, addRoundKey-bytes}
 use Rattle.aes.proofs.Inverse.{added-twice, invCipher-cipher, cipher-invCipher}
 use Rattle.aes.proofs.Spread.{stateAt-bytes}
 use Rattle.modes.specs.Walk.{carried, walked}
 use Rattle.modes.specs.Xts.{blockEnc, blockDec, nextTweak, timesAlpha, shiftedWord, xtsAesEnc, xtsAesDec, lowWord, numberBlock}
-use Rattle.modes.proofs.Walks.{length-walked, walked-bytes}
+use Rattle.modes.proofs.Walks.{length-walked}
 use Rattle.modes.proofs.Trips.{unwalked}
 
 shiftedWord-bytes : (w : Word) (x : ℕ) → ByteWord w → x < 256 → ByteWord (shiftedWord w x)
@@ -86,12 +86,6 @@ module _ (f g : State → State) (undo : (s : State) → ByteState s → g (f s)
       (λ i h. tweaked-undo (carried (tweaked f) nextTweak l t i) (stateAt l (16 * i)) (tweak-bytes (tweaked f) l t ht i) (stateAt-bytes l bytes (16 * i)))
       (λ u p. refl) e
 
-tweaked-bytes : (f : State → State) → ((s : State) → ByteState s → ByteState (f s)) → (t : State) → ByteState t → (m : ℕ) (l : List ℕ) → ByteList l → ByteList (walked (tweaked f) nextTweak l t m)
-unfolding tweaked
-tweaked-bytes f h t ht m l bytes =
-    walked-bytes (tweaked f) nextTweak l t
-    (λ i. addRoundKey-bytes _ _ (h _ (addRoundKey-bytes _ _ (stateAt-bytes l bytes (16 * i)) (tweak-bytes (tweaked f) l t ht i))) (tweak-bytes (tweaked f) l t ht i)) m
-
 -- ---- the two directions
 
 module _ (w : List ℕ) (key-bytes : ByteList w) (nr : ℕ) (t : State) (ht : ByteState t) (m : ℕ) (l : List ℕ) (bytes : ByteList l) where
@@ -102,14 +96,6 @@ module _ (w : List ℕ) (key-bytes : ByteList w) (nr : ℕ) (t : State) (ht : By
   pub xts-enc-dec : length l ≡ 16 * m → xtsAesEnc w nr t m (xtsAesDec w nr t m l) ≡ l
   unfolding xtsAesDec xtsAesEnc blockEnc blockDec tweaked
   xts-enc-dec = tweaked-back (invCipher w nr) (cipher w nr) (cipher-invCipher w key-bytes nr) t ht m l bytes
-
-  pub xtsAesEnc-bytes : ByteList (xtsAesEnc w nr t m l)
-  unfolding xtsAesEnc blockEnc tweaked
-  xtsAesEnc-bytes = tweaked-bytes (cipher w nr) (cipher-bytes w key-bytes nr) t ht m l bytes
-
-  pub xtsAesDec-bytes : ByteList (xtsAesDec w nr t m l)
-  unfolding xtsAesDec blockDec tweaked
-  xtsAesDec-bytes = tweaked-bytes (invCipher w nr) (invCipher-bytes w key-bytes nr) t ht m l bytes
 
 pub length-xtsAesEnc : (w : List ℕ) (n : ℕ) (t : State) (m : ℕ) (l : List ℕ) → length (xtsAesEnc w n t m l) ≡ 16 * m
 unfolding xtsAesEnc

@@ -1,25 +1,24 @@
--- CBC-CS3: decryption undoes encryption, for any number of rounds, any expanded key of bytes and any text of 16 bytes or more; lengths are kept, and results are bytes.
+-- CBC-CS3: decryption undoes encryption, for any number of rounds, any expanded key of bytes and any text of 16 bytes or more; lengths are kept, and what is encrypted is bytes.
 -- Assumes nothing.
 use mathlib.Core.Path.{_≡_, refl, sym, ap, ap₂, _∙_, subst}
-use mathlib.Core.List.{List, [], _∷_, _++_, append-assoc}
+use mathlib.Core.List.{List, _++_, append-assoc}
 use Prim.Native.Nat.{ℕ, zero, suc, _+_, _-_, _*_, _/_, _≤_, _<_}
 use native.Mathlib.Decide.{decLt}
 use native.Mathlib.Omega.{arith}
-use lib.ListN.{length, take, drop, getD, length-append, length-take, take-append-drop}
+use lib.ListN.{length, take, drop, length-append, length-take, take-append-drop}
 use Rattle.aes.specs.Words.{wordAt}
 use Rattle.aes.specs.States.{addRoundKey, stateAt}
 use Rattle.aes.specs.Bytes.{stateBytes}
 use Rattle.lists.specs.Bytes.{ByteList}
 use Rattle.aes.specs.Cipher.{invCipher}
-use Rattle.aes.specs.declared.Word.{Word}
 use Rattle.aes.specs.declared.State.{State}
 use Rattle.aes.proofs.Seams.{length-state}
-use Rattle.aes.proofs.ByteStates.{ByteWord, ByteState, addRoundKey-bytes, cipher-bytes, invCipher-bytes}
+use Rattle.aes.proofs.ByteStates.{ByteState, addRoundKey-bytes, cipher-bytes}
 use Rattle.aes.proofs.Inverse.{added-twice, invCipher-cipher}
 use Rattle.lists.proofs.ByteStrings.{append-bytes, take-bytes}
 use Rattle.aes.proofs.Spread.{stateBytes-bytes, stateAt-bytes}
 use Rattle.modes.specs.Walk.{carried, walked}
-use Rattle.modes.specs.Cts.{cbcStep, cbcNext, cbcInvStep, cbcInvNext, lastTwo, invLastTwo, filledWord, filled, cs3Encrypt, cs3Decrypt, cbcCs3Encrypt, cbcCs3Decrypt}
+use Rattle.modes.specs.Cts.{cbcStep, cbcNext, cbcInvStep, cbcInvNext, lastTwo, invLastTwo, filled, cs3Encrypt, cs3Decrypt, cbcCs3Encrypt, cbcCs3Decrypt}
 use Rattle.modes.proofs.Walks.{length-walked, walked-bytes}
 use Rattle.modes.proofs.Blocks.{take-more, take-last, state-front, blocks-after, filled-again}
 use Rattle.modes.proofs.Trips.{out, written, carried-back, walked-back, unwalked}
@@ -79,35 +78,6 @@ stolen-parts w n c l m h g f =
     end-bytes (walked (cbcStep w n) cbcNext l c m) (cbcStep w n (cbcStep w n (carried (cbcStep w n) cbcNext l c m) (stateAt l (16 * m))) (stateAt l (16 * m + 16)))
     (cbcStep w n (carried (cbcStep w n) cbcNext l c m) (stateAt l (16 * m))) (length l - (16 * m + 16)) h f g
 
-returned-parts : (w : List ℕ) (n : ℕ) (c : State) (l : List ℕ) (m : ℕ) → ByteList (walked (cbcInvStep w n) cbcInvNext l c m)
-    → ByteState (cbcInvStep w n (carried (cbcInvStep w n) cbcInvNext l c m) (filled l (16 * m + 16) (invCipher w n (stateAt l (16 * m)))))
-    → ByteState (addRoundKey (invCipher w n (stateAt l (16 * m))) (filled l (16 * m + 16) (invCipher w n (stateAt l (16 * m))))) → ByteList (cs3Decrypt w n c l m)
-unfolding cs3Decrypt invLastTwo
-returned-parts w n c l m h g f =
-    end-bytes (walked (cbcInvStep w n) cbcInvNext l c m) (cbcInvStep w n (carried (cbcInvStep w n) cbcInvNext l c m) (filled l (16 * m + 16) (invCipher w n (stateAt l (16 * m)))))
-    (addRoundKey (invCipher w n (stateAt l (16 * m))) (filled l (16 * m + 16) (invCipher w n (stateAt l (16 * m))))) (length l - (16 * m + 16)) h g f
-
--- a byte of a list, or another
-other-bytes : (l : List ℕ) → ByteList l → (i d : ℕ) → d < 256 → getD l i d < 256
-other-bytes [] h i d g = g
-other-bytes (x ∷ l) h zero d g = h zero
-other-bytes (x ∷ l) h (suc i) d g = other-bytes l (λ j. h (suc j)) i d g
-
-filledWord-bytes : (l : List ℕ) → ByteList l → (i : ℕ) (w : Word) → ByteWord w → ByteWord (filledWord l i w)
-unfolding filledWord
-filledWord-bytes l h i w g =
-    record { r0 = other-bytes l h i (w .r0) (g .r0); r1 = other-bytes l h (i + 1) (w .r1) (g .r1); r2 = other-bytes l h (i + 2) (w .r2) (g .r2); r3 = other-bytes l h (i + 3) (w .r3) (g .r3) }
-
-filled-bytes : (l : List ℕ) → ByteList l → (i : ℕ) (s : State) → ByteState s → ByteState (filled l i s)
-unfolding filled
-filled-bytes l h i s g =
-    record {
-      c0 = filledWord-bytes l h i (s .c0) (g .c0);
-      c1 = filledWord-bytes l h (i + 4) (s .c1) (g .c1);
-      c2 = filledWord-bytes l h (i + 8) (s .c2) (g .c2);
-      c3 = filledWord-bytes l h (i + 12) (s .c3) (g .c3);
-    }
-
 -- ---- the round trip
 
 module _ (w : List ℕ) (key-bytes : ByteList w) (n : ℕ) where
@@ -119,10 +89,6 @@ module _ (w : List ℕ) (key-bytes : ByteList w) (n : ℕ) where
   step-bytes : (c p : State) → ByteState c → ByteState p → ByteState (cbcStep w n c p)
   unfolding cbcStep
   step-bytes c p hc hp = cipher-bytes w key-bytes n _ (addRoundKey-bytes p c hp hc)
-
-  invStep-bytes : (c o : State) → ByteState c → ByteState o → ByteState (cbcInvStep w n c o)
-  unfolding cbcInvStep
-  invStep-bytes c o hc ho = addRoundKey-bytes _ _ (invCipher-bytes w key-bytes n o ho) hc
 
   deciphered : (c p : State) → ByteState c → ByteState p → invCipher w n (cbcStep w n c p) ≡ addRoundKey p c
   unfolding cbcStep
@@ -213,7 +179,6 @@ module _ (w : List ℕ) (key-bytes : ByteList w) (n : ℕ) where
         let e : length (cbcCs3Encrypt w n c l) ≡ length l = length-cbcCs3Encrypt w n c l h in
         elim (decLt 16 (length l)) [
           | yes g ↦
-              let m : ℕ = (length l - 17) / 16 in
               decrypted-long w n c (cbcCs3Encrypt w n c l) (omega arith)
               ∙ ap₂ (λ (x : List ℕ) (k : ℕ). cs3Decrypt w n c x ((k - 17) / 16)) (encrypted-long w n c l g) e
               ∙ returned-stolen ((length l - 17) / 16) (omega arith) (omega arith)
@@ -224,7 +189,7 @@ module _ (w : List ℕ) (key-bytes : ByteList w) (n : ℕ) where
               ∙ unwalked (cbcStep w n) cbcNext l c (cbcInvStep w n) cbcInvNext 1 (λ i k. undone i) (λ u p. refl) f
         ]
 
-    -- ---- results are bytes
+    -- ---- what is encrypted is bytes
 
     pub cbcCs3Encrypt-bytes : ByteList (cbcCs3Encrypt w n c l)
     cbcCs3Encrypt-bytes =
@@ -242,27 +207,3 @@ module _ (w : List ℕ) (key-bytes : ByteList w) (n : ℕ) where
             let a : State = cbcStep w n t (stateAt l (16 * m)) in
             stolen-parts w n c l m (walked-bytes (cbcStep w n) cbcNext l c out-bytes m) (out-bytes m)
             (step-bytes a (stateAt l (16 * m + 16)) (out-bytes m) (stateAt-bytes l bytes (16 * m + 16)))
-
-    invCarried-bytes : (i : ℕ) → ByteState (carried (cbcInvStep w n) cbcInvNext l c i)
-    unfolding carried
-    invCarried-bytes zero = hc
-    invCarried-bytes (suc i) = stateAt-bytes l bytes (16 * i)
-
-    pub cbcCs3Decrypt-bytes : ByteList (cbcCs3Decrypt w n c l)
-    cbcCs3Decrypt-bytes =
-        elim (decLt 16 (length l)) [
-          | yes g ↦ subst (λ (x : List ℕ). ByteList x) (sym (decrypted-long w n c l g)) (back-bytes ((length l - 17) / 16))
-          | no g ↦ subst (λ (x : List ℕ). ByteList x) (sym (decrypted-one w n c l (omega (arith, g)))) (walked-bytes (cbcInvStep w n) cbcInvNext l c out-bytes 1)
-        ]
-      where
-        out-bytes : (i : ℕ) → ByteState (cbcInvStep w n (carried (cbcInvStep w n) cbcInvNext l c i) (stateAt l (16 * i)))
-        out-bytes i = invStep-bytes _ _ (invCarried-bytes i) (stateAt-bytes l bytes (16 * i))
-
-        back-bytes : (m : ℕ) → ByteList (cs3Decrypt w n c l m)
-        back-bytes m =
-            let y : State = invCipher w n (stateAt l (16 * m)) in
-            let hy : ByteState y = invCipher-bytes w key-bytes n (stateAt l (16 * m)) (stateAt-bytes l bytes (16 * m)) in
-            let a : State = filled l (16 * m + 16) y in
-            let ha : ByteState a = filled-bytes l bytes (16 * m + 16) y hy in
-            returned-parts w n c l m (walked-bytes (cbcInvStep w n) cbcInvNext l c out-bytes m)
-            (invStep-bytes (carried (cbcInvStep w n) cbcInvNext l c m) a (invCarried-bytes m) ha) (addRoundKey-bytes y a hy ha)

@@ -1,5 +1,5 @@
 -- The codecs of policies and contexts: what is written is read back, and what was read is written back (document 01: "writing then reading, and reading then
--- writing, give back the same"); what a read that passed tells; and that policies are the same where they are equal. Assumes nothing.
+-- writing, give back the same"); what a read that passed tells; and that a policy is the same as itself. Assumes nothing.
 use mathlib.Core.Path.{_≡_, refl, sym, ap, ap₂, _∙_}
 use mathlib.Core.Bool.{Bool, true, false, cond, not}
 use mathlib.Core.List.{[], _∷_, _++_}
@@ -10,7 +10,7 @@ use lib.Seq.{take-at, drop-at, take-all, take-add, drop-drop, length-take-le}
 use lib.Dec.{eqb}
 use borrow.Author.Tests.{eqb-true, not-false}
 use Rattle.lists.specs.Bytes.{Bytes}
-use Rattle.lists.proofs.Tests.{and-left, and-right, bool-ext, eqb-self, same-eq, same-self}
+use Rattle.lists.proofs.Tests.{and-left, eqb-self, same-self}
 use Rattle.errno.specs.Refusals.{_⇒_, _>>_, isFine}
 use Rattle.errno.specs.declared.Errno.the-variants.{EINVAL}
 use Rattle.errno.specs.declared.Checked.{Checked}
@@ -24,31 +24,16 @@ use Rattle.policy.specs.declared.PolicyRead.{PolicyRead}
 use Rattle.policy.specs.declared.ContextRead.{ContextRead}
 use Rattle.policy.proofs.Reading.{policyTaken, contextTaken, policy-fine, context-fine}
 
--- ---- policies that are the same
+-- ---- equal policies
 
 policy-eq : {v v′ c c′ n n′ f f′ : ℕ} {d d′ : Bytes} → v ≡ v′ → c ≡ c′ → n ≡ n′ → f ≡ f′ → d ≡ d′
     → _≡_ {A = Policy} (record { version = v; contents = c; names = n; flags = f; descriptor = d })
     (record { version = v′; contents = c′; names = n′; flags = f′; descriptor = d′ })
 policy-eq p q r s t = cc
 
-pub samePolicy-eq : (a b : Policy) → samePolicy a b ≡ true → a ≡ b
-unfolding samePolicy
-samePolicy-eq a b h =
-    let h₁ = and-right (eqb (a .version) (b .version)) _ h in
-    let h₂ = and-right (eqb (a .contents) (b .contents)) _ h₁ in
-    let h₃ = and-right (eqb (a .names) (b .names)) _ h₂ in
-    let h₄ = and-right (eqb (a .flags) (b .flags)) _ h₃ in
-    policy-eq (eqb-true _ _ (and-left _ _ h)) (eqb-true _ _ (and-left _ _ h₁)) (eqb-true _ _ (and-left _ _ h₂)) (eqb-true _ _ (and-left _ _ h₃)) (same-eq _ _ h₄)
-
 pub samePolicy-refl : (a : Policy) → samePolicy a a ≡ true
 unfolding samePolicy
 samePolicy-refl a = simp (eqb-self, same-self)
-
-pub samePolicy-sym : (a b : Policy) → samePolicy a b ≡ samePolicy b a
-samePolicy-sym a b = bool-ext _ _ (λ h. turned a b (samePolicy-eq a b h)) (λ h. turned b a (samePolicy-eq b a h))
-  where
-    turned : (a b : Policy) → a ≡ b → samePolicy b a ≡ true
-    turned a b e = ap (λ (x : Policy). samePolicy b x) e ∙ samePolicy-refl b
 
 -- ---- what a read checks, and what one that passed tells
 
@@ -110,22 +95,6 @@ module _ (b : Bytes) (h : (readContext b) .checked ≡ Fine) where
 
   context-read : readContext b ≡ contextTaken (contextAt b)
   context-read = context-fine b (context-passed .0) (context-passed .1) (context-passed .2)
-
-  pub readContext-fine : isValid ((readContext b) .context .policy) ≡ true
-  unfolding contextAt
-  readContext-fine = ap (λ (r : ContextRead). isValid (r .context .policy)) context-read ∙ context-passed .2
-
-  pub readContext-length : length ((readContext b) .context .policy .descriptor) ≡ 8
-  unfolding contextAt policyAt
-  readContext-length =
-      let l : length b ≡ 28 = context-passed .0 in
-      ap (λ (r : ContextRead). length (r .context .policy .descriptor)) context-read ∙ length-take-le 8 (drop 4 b) (simp length-drop (omega arith))
-
-  pub readContext-nonce : length ((readContext b) .context .nonce) ≡ 16
-  unfolding contextAt
-  readContext-nonce =
-      let l : length b ≡ 28 = context-passed .0 in
-      ap (λ (r : ContextRead). length (r .context .nonce)) context-read ∙ length-take-le 16 (drop 12 b) (simp length-drop (omega arith))
 
 -- ---- writing then reading
 
