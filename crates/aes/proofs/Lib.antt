@@ -7,4 +7,3 @@ pub mod Put
 pub mod Schedule
 pub mod Columns
 mod Steps
-mod Vectors
