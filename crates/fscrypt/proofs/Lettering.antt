@@ -6,10 +6,10 @@ use Prim.Native.Nat.{ℕ, zero, suc, _+_, _-_, _*_, _/_, _%_, _≤_, _<_}
 use native.Mathlib.Nat.{zero-add}
 use native.Mathlib.Omega.{arith}
 use lib.ListN.{length, take, drop, getD, set, length-append, length-drop}
-use lib.Seq.{getD-drop, length-take-le, take-length, set-at, append-snoc, paste}
+use lib.Seq.{getD-drop, length-take-le, set-at, append-snoc}
 use borrow.Author.Tests.{lt-ltb, le-ltb, le-leb, lt-leb}
 use Rattle.lists.specs.Bytes.{Bytes, zeros, hexDigit}
-use Rattle.lists.proofs.ByteStrings.{drop-zeros}
+use Rattle.lists.proofs.ByteStrings.{zeros-more, drop-zeros}
 use Rattle.fscrypt.specs.Encoded.{letter, letters, encoded}
 use Rattle.fscrypt.specs.Names.{packed}
 use Rattle.fscrypt.specs.declared.Name.{Name}
@@ -152,13 +152,6 @@ pub length-front : (s : Bytes) → 160 < length s → length (letters (take 160 
 length-front s h = omega (arith, length-letters (take 160 s), length-take-le 160 s (omega arith))
 
 -- ---- in a buffer of zeros
-
-pub paste-end : (d : Bytes) (at : ℕ) (s l : Bytes) (j : ℕ) → l ≡ paste d at s j → j ≡ length s → l ≡ take at d ++ s ++ drop (at + length s) d
-paste-end d at s l j e h = e ∙ ap (λ (k : ℕ). paste d at s k) h ∙ ap (λ (x : Bytes). take at d ++ x ++ drop (at + length s) d) (take-length s)
-
-zeros-more : (n : ℕ) → zeros (suc n) ≡ 0 ∷ zeros n
-unfolding zeros
-zeros-more n = refl
 
 name-eq : {m n : ℕ} {a b : Bytes} → m ≡ n → a ≡ b → _≡_ {A = Name} (record { len = m; bytes = a }) (record { len = n; bytes = b })
 name-eq p q = cc

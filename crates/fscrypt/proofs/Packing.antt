@@ -23,7 +23,7 @@ use Rattle.errno.specs.declared.Errno.the-variants.{EUCLEAN}
 use Rattle.errno.specs.declared.Checked.{Checked}
 use Rattle.errno.specs.declared.Checked.the-variants.{Fine, Refused}
 use Rattle.fscrypt.specs.Cipher.{fscrypt, encryptName}
-use Rattle.fscrypt.specs.Names.{isNul, isNotNul, nameCheck, multiple, rounded, paddedLength, padded, encrypted, isAllNul, beforeNul, paddingCheck, readPadded, nameBytes, packed}
+use Rattle.fscrypt.specs.Names.{isNul, nameCheck, multiple, rounded, paddedLength, padded, encrypted, isAllNul, beforeNul, paddingCheck, readPadded, nameBytes, packed}
 use Rattle.fscrypt.specs.declared.Name.{Name}
 use Rattle.fscrypt.specs.declared.NameRead.{NameRead}
 use Rattle.fscrypt.proofs.Lawfulness.{fscrypt-lawful}
@@ -93,15 +93,6 @@ unfolding encrypted
 encrypted-packed key flags n x b h q = packed-over (encryptName key) (padded flags n) x b h (fscrypt-lawful .length-encryptName key (padded flags n)) q
 
 -- ---- what is read of decrypted bytes
-
--- a search for a byte that is no NUL, and what it comes to
-pub some-byte : (s : Bytes) (i : ℕ) → i ≡ firstAt isNotNul s → i < length s → false ≡ isAllNul s
-unfolding isAllNul
-some-byte s i e h = sym (lt-leb (length s) (firstAt isNotNul s) (omega arith))
-
-pub no-byte : (s : Bytes) (i : ℕ) → i ≡ firstAt isNotNul s → length s ≤ i → true ≡ isAllNul s
-unfolding isAllNul
-no-byte s i e h = sym (le-leb (length s) (firstAt isNotNul s) (omega arith))
 
 -- the checks of padding, as one test
 passes : (a b c : Bool) → isFine (_>>_ (not a ⇒ EUCLEAN) (_>>_ (not b ⇒ EUCLEAN) (_>>_ (not c ⇒ EUCLEAN) Fine))) ≡ (a && (b && c))

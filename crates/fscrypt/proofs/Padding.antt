@@ -5,12 +5,12 @@ use native.Mathlib.Omega.{arith}
 use mathlib.Core.Path.{_≡_, refl, _∙_, ap}
 use mathlib.Core.Bool.{Bool, true, false, cond, _||_}
 use mathlib.Core.List.{[], _∷_, _++_}
-use lib.ListN.{length, take, drop, length-append, length-replicate}
+use lib.ListN.{length, take, drop, length-append}
 use lib.Seq.{take-append-seam, drop-append-seam}
 use lib.Dec.{eqb, leb, ltb}
 use borrow.Author.Tests.{leb-true, leb-false, ltb-false, le-leb}
 use Rattle.lists.specs.Bytes.{Bytes, ByteList, zeros, firstAt, isEmpty}
-use Rattle.lists.proofs.ByteStrings.{append-bytes, zeros-bytes}
+use Rattle.lists.proofs.ByteStrings.{append-bytes, zeros-bytes, length-zeros}
 use Rattle.lists.proofs.Tests.{or-left, eqb-self}
 use Rattle.errno.specs.Refusals.{_⇒_, _>>_}
 use Rattle.errno.specs.declared.Errno.the-variants.{ENOENT, ENAMETOOLONG, EINVAL}
@@ -56,10 +56,6 @@ pad-fits flags n h = go (leb (rounded (multiple flags) n) 255) refl
     go false e =
         let w : 255 < m = leb-false m 255 e in
         record { low = rw e (rounded-big flags n w); high = rw e h; over = rw e (omega arith) }
-
-pub length-zeros : (n : ℕ) → length (zeros n) ≡ n
-unfolding zeros
-length-zeros n = length-replicate n 0
 
 pub length-padded : (flags : ℕ) (n : Bytes) → length n ≤ 255 → length (padded flags n) ≡ paddedLength flags (length n)
 unfolding padded

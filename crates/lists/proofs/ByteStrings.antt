@@ -2,9 +2,9 @@
 -- Assumes nothing.
 use Prim.Native.Nat.{ℕ, zero, suc, _+_, _-_, _≤_, _<_}
 use native.Mathlib.Omega.{arith}
-use mathlib.Core.Path.{_≡_, sym, _∙_, ap, subst}
+use mathlib.Core.Path.{_≡_, refl, sym, _∙_, ap, subst}
 use mathlib.Core.List.{[], _∷_, _++_}
-use lib.ListN.{length, take, drop}
+use lib.ListN.{length, take, drop, length-replicate}
 use lib.Seq.{getD-drop, length-take-le}
 use lib.Dec.{lit<}
 use Rattle.lists.specs.Bytes.{Bytes, ByteList, zeros}
@@ -42,6 +42,20 @@ zeros-bytes (suc n) (suc i) = zeros-bytes n i
 
 count : (a b : ℕ) → a ≡ b → zeros a ≡ zeros b
 count a b e = ap zeros e
+
+pub length-zeros : (n : ℕ) → length (zeros n) ≡ n
+unfolding zeros
+length-zeros n = length-replicate n 0
+
+pub zeros-more : (n : ℕ) → zeros (suc n) ≡ 0 ∷ zeros n
+unfolding zeros
+zeros-more n = refl
+
+pub take-zeros : (k n : ℕ) → k ≤ n → take k (zeros n) ≡ zeros k
+unfolding zeros
+take-zeros zero n h = refl
+take-zeros (suc k) zero h = absurd (omega arith)
+take-zeros (suc k) (suc n) h = ap (0 ∷_) (take-zeros k n (omega arith))
 
 pub drop-zeros : (n m : ℕ) → drop n (zeros m) ≡ zeros (m - n)
 unfolding zeros

@@ -1,18 +1,14 @@
 -- Text after text in a buffer: what was stored at a position, and then at the position after it, was stored as one.
 -- Assumes nothing.
-use Prim.Native.Nat.{ℕ, _+_, _≤_}
+use Prim.Native.Nat.{ℕ, _+_}
 use native.Mathlib.Omega.{arith}
 use mathlib.Core.Path.{_≡_, _∙_, ap}
 use mathlib.Core.List.{[], _∷_, _++_}
 use native.Mathlib.Numerals.{add-one}
-use lib.ListN.{length, take, set, length-append}
-use lib.Seq.{sets, sets-eq, take-append-seam}
+use lib.ListN.{length, set, length-append}
+use lib.Seq.{sets}
 use Rattle.lists.specs.Bytes.{Bytes}
 use Rattle.lists.proofs.Copies.{sets-more}
-
--- a text at the start is what stands there
-pub sets-start : (b s : Bytes) → length s ≤ length b → take (length s) (sets b 0 s) ≡ s
-sets-start b s h = ap (take (length s)) (sets-eq s b 0 (omega arith)) ∙ take-append-seam s _
 
 -- two stores side by side, after a text
 pub sets-two : (b : Bytes) (at : ℕ) (s : Bytes) (k x y : ℕ) → k ≡ length s → set (set (sets b at s) (at + k) x) (at + k + 1) y ≡ sets b at (s ++ (x ∷ y ∷ []))

@@ -3,12 +3,11 @@
 use Prim.Native.Nat.{ℕ, _≤_}
 use mathlib.Core.Path.{_≡_, refl, sym, _∙_, ap}
 use mathlib.Core.Bool.{Bool, true, false, cond, true≢false}
-use lib.ListN.{length, take, drop, drop-of-length-le}
+use lib.ListN.{length, take}
 use lib.Dec.{eqb}
 use native.Mathlib.Omega.{arith}
-use mathlib.Core.List.{[], _++_, append-nil}
-use lib.Seq.{take-append-seam}
-use Rattle.lists.specs.Bytes.{Bytes, same, zeros, laidOver, isEmpty}
+use mathlib.Core.List.{[]}
+use Rattle.lists.specs.Bytes.{Bytes, same, zeros, isEmpty}
 use Rattle.lists.proofs.Tests.{and-right, eqb-true}
 use Rattle.script.specs.Text.{text}
 use Rattle.script.specs.Words.{firstWord, afterWord}
@@ -144,14 +143,6 @@ module _ (a : Args) (w : Bytes) where
 -- a byte string of n bytes has n bytes
 pub isBytes-count : (n : ℕ) (w : Bytes) → isBytes n w ≡ true → length (bytesOf w) ≡ n
 isBytes-count n w e = eqb-true (and-right (isByteString w) (eqb (length (bytesOf w)) n) e)
-
--- bytes laid over as many zeros
-pub laid-whole : (b s : Bytes) → length s ≡ length b → laidOver b s ≡ s
-laid-whole b s e = let h : length b ≤ length s = omega arith in ap (λ (r : Bytes). s ++ r) (drop-of-length-le b h) ∙ append-nil s
-
--- bytes laid over a longer buffer, read back
-pub laid-read : (b s : Bytes) (n : ℕ) → n ≡ length s → take n (laidOver b s) ≡ s
-laid-read b s n e = ap (λ (k : ℕ). take k (laidOver b s)) e ∙ take-append-seam s (drop (length s) b)
 
 -- ---- two words, and all of them, from what each call says
 

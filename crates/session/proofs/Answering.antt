@@ -17,7 +17,8 @@ use Rattle.script.specs.declared.Shape.{Shape}
 use Rattle.script.specs.declared.Args.{Args}
 use Rattle.script.specs.declared.Verb.{Verb}
 use Rattle.volume.specs.declared.Volume.{Volume}
-use Rattle.script.proofs.Stores.{then-sets, sets-start}
+use Rattle.lists.proofs.Copies.{sets-start}
+use Rattle.script.proofs.Stores.{then-sets}
 use Rattle.script.specs.Text.{text}
 use Rattle.session.specs.Answers.{Written, Said, saying, malformed}
 use Rattle.session.specs.Lines.{respond, withoutReturn, isSkipped, directed, commanded, ended, answered}

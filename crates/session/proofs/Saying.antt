@@ -1,11 +1,9 @@
 -- A request's outcome, said: what its contract gives is what the definition has.
 -- Assumes nothing.
-use Prim.Native.Nat.{ℕ, zero, suc, _-_, _≤_, _<_}
-use native.Mathlib.Omega.{arith}
+use Prim.Native.Nat.{ℕ, _≤_, _<_}
 use mathlib.Core.Path.{_≡_, refl, sym, _∙_, ap}
 use mathlib.Core.Bool.{Bool, false}
-use mathlib.Core.List.{[], _∷_}
-use lib.ListN.{take}
+use mathlib.Core.List.{[]}
 use borrow.Author.Tests.{le-leb, lt-leb}
 use Rattle.lists.specs.Bytes.{Bytes, zeros}
 use Rattle.fscrypt.specs.Cipher.{fscrypt}
@@ -55,9 +53,3 @@ module _ (v : Volume) (a : Args) (t : Bytes) where
   pub shows-not : 4096 < a .second → malformed v ≡ respond v Show a t
   unfolding respond
   shows-not h = rw (lt-leb _ _ h)
-
-pub take-zeros : (k n : ℕ) → k ≤ n → take k (zeros n) ≡ zeros k
-unfolding zeros
-take-zeros zero n h = refl
-take-zeros (suc k) zero h = absurd (omega arith)
-take-zeros (suc k) (suc n) h = ap (λ (r : Bytes). 0 ∷ r) (take-zeros k n (omega arith))

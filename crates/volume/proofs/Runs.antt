@@ -17,7 +17,7 @@ use Rattle.errno.specs.Refusals.{number}
 use Rattle.errno.specs.declared.Errno.the-variants.{EUCLEAN}
 use Rattle.errno.specs.declared.Checked.{Checked}
 use Rattle.fscrypt.specs.Cipher.{Cipher, Lawful}
-use Rattle.fscrypt.proofs.Padding.{length-zeros}
+use Rattle.lists.proofs.ByteStrings.{length-zeros}
 use Rattle.volume.specs.Volume.{keySlots, inodeSlots, entrySlots, noKey, noInode, plainInode, noEntry, nameOf, fresh}
 use Rattle.volume.specs.Request.{Request, addKey, removeKey, setPolicy, getPolicy, create, link, rename, exchange, remove, find, show, seal, unseal, Answer, refused, Outcome, Typed, AllTyped}
 use Rattle.volume.specs.Lookup.{isFreeKey, inodeAt, isVacant}

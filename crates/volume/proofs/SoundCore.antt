@@ -16,7 +16,7 @@ use Rattle.lists.proofs.Slots.{Apart, apart-set, search-none}
 use Rattle.errno.specs.declared.Checked.the-variants.{Fine}
 use Rattle.policy.specs.Policies.{isValid, noContext}
 use Rattle.fscrypt.specs.Names.{nameCheck, paddedLength}
-use Rattle.fscrypt.proofs.Padding.{length-zeros}
+use Rattle.lists.proofs.ByteStrings.{length-zeros}
 use Rattle.volume.specs.Volume.{keySlots, inodeSlots, entrySlots, noKey, noInode, noEntry, plainInode, keyBytes, nameOf, entrySlot}
 use Rattle.volume.specs.Lookup.{isFreeKey, isVacant, isNamed, isTaken, entryNamed, isIn, firstChild, hasEntries}
 use Rattle.volume.specs.Checks.{isBadKeyLength}

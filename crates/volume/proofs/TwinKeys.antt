@@ -10,7 +10,7 @@ use lib.Dec.{eqb, leb, ltb}
 use Rattle.lists.specs.Bytes.{Bytes, ByteList, zeros}
 use Rattle.lists.proofs.Tests.{if-false, eqb-other}
 use Rattle.lists.proofs.Tables.{map-set, all-set}
-use Rattle.fscrypt.proofs.Padding.{length-zeros}
+use Rattle.lists.proofs.ByteStrings.{length-zeros}
 use Rattle.volume.specs.Volume.{keySlots, entrySlots, noKey, keySlot}
 use Rattle.volume.specs.Request.{addKey, removeKey, getPolicy, find, seal, unseal, at}
 use Rattle.volume.specs.Lookup.{keySlotOf, freeKeySlot, inodeAt}

@@ -6,8 +6,8 @@ use native.Mathlib.Omega.{arith}
 use lib.ListN.{length, length-set}
 use lib.Seq.{paste, paste-zero}
 use Rattle.fscrypt.specs.Encoded.{letters}
-use Rattle.lists.proofs.Copies.{paste-turn}
-use Rattle.fscrypt.proofs.Lettering.{length-letters, paste-end}
+use Rattle.lists.proofs.Copies.{paste-turn, paste-end}
+use Rattle.fscrypt.proofs.Lettering.{length-letters}
 use borrow.Author.Needs.{needs}
 use Rattle.fscrypt.proofs.encode.put_letters.Statement.{statement}
 use Rattle.fscrypt.proofs.encode.put_letters.Tie as tie

@@ -1,14 +1,12 @@
--- `fscrypt::fname::is_all_nul` meets its contract. The loop's invariant: no byte before `i` is other than NUL, so that `isAllNul` is told where it ends.
--- Assumes nothing.
+-- `fscrypt::fname::is_all_nul` meets its contract. The loop's invariant: no byte before `i` is other than NUL. Assumes nothing.
 use Prim.Native.Nat.{_≤_, _-_}
 use native.Mathlib.Omega.{arith}
 use lib.ListN.{length}
 use borrow.Author.Tests.{eq-eqb, ne-eqb}
 use borrow.Author.Needs.{needs}
 use Rattle.lists.proofs.Predicates.{not-of-true, not-of-false}
-use Rattle.lists.proofs.Loops.{Scanned, hit, miss, scanned-none, scanned-all}
-use Rattle.fscrypt.specs.Names.{isNotNul}
-use Rattle.fscrypt.proofs.Packing.{some-byte, no-byte}
+use Rattle.lists.proofs.Loops.{Scanned, miss, scanned-none, all-stop, all-pass}
+use Rattle.fscrypt.specs.Names.{isNotNul, isAllNul}
 use Rattle.fscrypt.proofs.fname.is_all_nul.Statement.{statement}
 use Rattle.fscrypt.proofs.fname.is_all_nul.Tie as tie
 
@@ -25,8 +23,8 @@ shared-slice-read-if1 : tie.Need-shared-slice-read-if1 Inv-loop μ-loop
 shared-slice-read-if1 c = search needs
 
 returns : tie.Need-returns Inv-loop μ-loop
-returns c = let l = c .before .before .before .loop in
-    some-byte _ (l .i) (hit _ _ 0 (l .i) (omega arith) (l .inv .1) (not-of-false _ (ne-eqb _ _ (c .if1 .taken)))) (omega arith)
+unfolding isAllNul
+returns c = let l = c .before .before .before .loop in all-stop _ _ 0 (l .i) (omega arith) (l .inv .1) (not-of-false _ (ne-eqb _ _ (c .if1 .taken)))
 
 add-i : tie.Need-add-i Inv-loop μ-loop
 add-i c = search needs
@@ -39,7 +37,8 @@ loop-again c = let l = c .before .before .before .loop in
     (omega arith, miss _ _ 0 (l .i) (omega arith) (l .inv .1) (not-of-true _ (eq-eqb _ _ (c .if1 .left))))
 
 returns-2 : tie.Need-returns-2 Inv-loop μ-loop
-returns-2 c = let l = c .before .loop in no-byte _ (l .i) (scanned-all _ _ _ (omega arith) (l .inv .1)) (omega arith)
+unfolding isAllNul
+returns-2 c = all-pass _ _ _ (omega arith) (c .before .loop .inv .1)
 
 pub is-all-nul-spec : {M : Type 1} → statement M
 is-all-nul-spec =

@@ -1,6 +1,6 @@
 -- `descriptor_in`: 8 bytes laid over 8 zeros. Assumes nothing.
 use mathlib.Core.Path.{_∙_}
-use Rattle.script.proofs.Taking.{laid-whole}
+use Rattle.lists.proofs.Copies.{laid-whole}
 use borrow.Author.Needs.{needs}
 use Rattle.script.proofs.arguments.descriptor_in.Statement.{statement}
 use Rattle.script.proofs.arguments.descriptor_in.Tie as tie

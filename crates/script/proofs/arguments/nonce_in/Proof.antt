@@ -1,6 +1,6 @@
 -- `nonce_in`: 16 bytes laid over 16 zeros. Assumes nothing.
 use mathlib.Core.Path.{_∙_}
-use Rattle.script.proofs.Taking.{laid-whole}
+use Rattle.lists.proofs.Copies.{laid-whole}
 use borrow.Author.Needs.{needs}
 use Rattle.script.proofs.arguments.nonce_in.Statement.{statement}
 use Rattle.script.proofs.arguments.nonce_in.Tie as tie

@@ -7,7 +7,8 @@ use borrow.Author.Tests.{not-true, not-false}
 use Rattle.script.specs.declared.Args.{Args}
 use Rattle.script.specs.Commands.{withLen}
 use Rattle.script.proofs.Hex.{bytesOf-length}
-use Rattle.script.proofs.Taking.{text-is, text-not, bytes-are, bytes-stay, laid-read}
+use Rattle.script.proofs.Taking.{text-is, text-not, bytes-are, bytes-stay}
+use Rattle.lists.proofs.Copies.{laid-read}
 use borrow.Author.Needs.{needs}
 use Rattle.script.proofs.arguments.take_text.Statement.{statement}
 use Rattle.script.proofs.arguments.take_text.Tie as tie

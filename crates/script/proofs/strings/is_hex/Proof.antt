@@ -3,9 +3,8 @@ use Prim.Native.Nat.{_≤_, _-_, ℕ}
 use native.Mathlib.Omega.{arith}
 use lib.ListN.{length}
 use mathlib.Core.Path.{sym, _∙_, ap}
-use Rattle.lists.proofs.Loops.{Scanned, miss, scanned-none}
+use Rattle.lists.proofs.Loops.{Scanned, miss, scanned-none, all-stop, all-pass}
 use mathlib.Core.Bool.{not}
-use Rattle.script.proofs.Picks.{all-stop, all-pass}
 use Rattle.script.specs.Strings.{isHexDigit, isHex}
 use borrow.Author.Needs.{needs}
 use Rattle.script.proofs.strings.is_hex.Statement.{statement}
@@ -41,7 +40,7 @@ loop-again c = let l = c .before .before .before .before .loop in (omega arith, 
 
 returns-2 : tie.Need-returns-2 Inv-loop μ-loop
 unfolding isHex
-returns-2 c = all-pass _ _ 0 _ (omega arith) (c .before .loop .inv .1)
+returns-2 c = all-pass _ _ _ (omega arith) (c .before .loop .inv .1)
 
 pub is-hex-spec : {M : Type 1} → statement M
 is-hex-spec =

@@ -7,12 +7,12 @@ use lib.ListN.{length, take}
 use lib.Seq.{length-take-le}
 use Rattle.lists.specs.Bytes.{Bytes}
 use Rattle.fscrypt.specs.Cipher.{fscrypt}
-use Rattle.fscrypt.proofs.Padding.{length-zeros}
+use Rattle.lists.proofs.ByteStrings.{length-zeros, take-zeros}
 use Rattle.volume.specs.Request.{show}
 use Rattle.volume.specs.Step.{step}
 use Rattle.session.specs.Answers.{told}
 use Rattle.session.specs.Lines.{entry}
-use Rattle.session.proofs.Saying.{same-said, take-zeros}
+use Rattle.session.proofs.Saying.{same-said}
 use borrow.Author.Needs.{needs}
 use Rattle.session.proofs.calls.show_sized.Statement.{statement}
 use Rattle.session.proofs.calls.show_sized.Tie as tie
