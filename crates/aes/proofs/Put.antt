@@ -1,11 +1,11 @@
 -- Bytes put into a list. Assumes nothing.
 use mathlib.Core.Path.{_≡_, refl, sym, ap, ap₂, _∙_}
-use mathlib.Core.List.{List, _++_, append-assoc, append-nil}
-use Prim.Native.Nat.{ℕ, _+_, _-_, _≤_}
+use mathlib.Core.List.{List, _++_, append-assoc}
+use Prim.Native.Nat.{ℕ, _+_, _≤_}
 use native.Mathlib.Numerals.{add-one, add-two, add-three}
 use native.Mathlib.Omega.{arith}
-use lib.ListN.{length, take, drop, set, length-append, length-take, length-drop, replicate, drop-of-length-le}
-use lib.Seq.{paste, sets-eq, take-at, drop-drop, drop-append-add}
+use lib.ListN.{length, take, drop, set, length-append, length-take, length-drop, replicate}
+use lib.Seq.{sets-eq, take-at, drop-drop, drop-append-add}
 use Rattle.aes.specs.Bytes.{putAt, wordBytes, stateBytes}
 use Rattle.aes.specs.declared.Word.{Word}
 use Rattle.aes.specs.declared.State.{State}
@@ -51,13 +51,6 @@ put-four l i s l₁ l₂ l₃ l₄ h e₁ e₂ e₃ e₄ =
 pub alone : (s : State) (t : List ℕ) → t ≡ putAt (replicate 16 0) 0 (stateBytes s) → t ≡ stateBytes s
 unfolding putAt stateBytes
 alone s t e = e
-
--- a copy to the end
-pub paste-end : (d : List ℕ) (at : ℕ) (s t l : List ℕ) (j : ℕ) → l ≡ paste d at t j → j ≡ length d - at → at ≤ length d → t ≡ s → l ≡ take at d ++ take (length d - at) s
-paste-end d at s t l j e h g f =
-    let z : length d ≤ at + j = omega arith in
-    e ∙ ap (λ (x : List ℕ). take at d ++ take j t ++ x) (drop-of-length-le d z) ∙ append-nil (take at d ++ take j t)
-    ∙ ap₂ (λ (k : ℕ) (x : List ℕ). take at d ++ take k x) h f
 
 pub take-putAt : (l : List ℕ) (i : ℕ) (xs : List ℕ) (n : ℕ) → n ≡ i + length xs → i ≤ length l → take n (putAt l i xs) ≡ take i l ++ xs
 unfolding putAt

@@ -24,7 +24,7 @@ fn byte(l: &[u8], i: usize, other: u8) -> u8
     other
 }
 
-// Four bytes of it.
+// Four bytes of it. A text has 4,096 bytes or less: under twice that no position wraps.
 fn word(l: &[u8], at: usize, other: Word) -> Word
     requires { ⌜ at < 8192 ⌝ }
     ensures { λ r. ⌜ r ≡ filledWord (now (l .entry)) at other ⌝ }
@@ -37,7 +37,7 @@ fn word(l: &[u8], at: usize, other: Word) -> Word
     }
 }
 
-// The block at a position, with the bytes of another for what lies past the end.
+// The block at a position, with the bytes of another for what lies past the end. Its four words lie under the bound of `word`.
 fn fill(l: &[u8], at: usize, other: State) -> State
     requires { ⌜ at < 8000 ⌝ }
     ensures { λ r. ⌜ r ≡ filled (now (l .entry)) at other ⌝ }
@@ -58,11 +58,7 @@ fn store_front(l: &mut [u8], at: usize, s: State)
     let mut t = [0u8; 16];
     states::store(&mut t, 0, s);
     let n = l.len() - at;
-    let mut j: usize = 0;
-    while j < n {
-        l[at + j] = t[j];
-        j += 1;
-    }
+    lists::copy_to(l, at, &t[..n]);
 }
 
 // A block of CBC, after the ciphertext block c.

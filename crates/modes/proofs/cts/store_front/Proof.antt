@@ -1,76 +1,55 @@
--- `cts::store_front` meets its contract: by the invariant of its loop and `paste-end`. Assumes nothing.
-use denote.Ref.{now}
-use lib.Seq.{paste, paste-zero}
-use Rattle.lists.proofs.Copies.{paste-turn}
-use Rattle.aes.proofs.Put.{alone, paste-end}
-use Prim.Native.Nat.{ℕ, _+_, _*_, _≤_, _<_, _-_}
+-- `cts::store_front` meets its contract: the copy ends where the buffer does. Assumes nothing.
+use Prim.Native.Nat.{ℕ, _-_}
 use native.Mathlib.Omega.{arith}
-use mathlib.Core.Path.{_≡_, refl, sym, ap, ap₂, _∙_}
-use lib.ListN.{length, getD, length-set}
+use mathlib.Core.Path.{_∙_, ap}
+use mathlib.Core.List.{List, _++_}
+use denote.Ref.{now}
+use lib.ListN.{length, take, length-take}
 use borrow.Author.Needs.{needs}
+use Rattle.lists.proofs.ByteStrings.{count-take}
+use Rattle.lists.proofs.Copies.{copied-end}
+use Rattle.aes.proofs.Put.{alone}
 use Rattle.modes.proofs.cts.store_front.Statement.{statement}
 use Rattle.modes.proofs.cts.store_front.Tie as tie
 
-abbrev Inv-loop : tie.InvT-loop
-Inv-loop l₀ at t n j₀ l j = (n ≡ length l₀ - at) × (j ≤ n) × (length l ≡ length l₀) × (length t ≡ 16) × (l ≡ paste l₀ at t j)
-
-abbrev μ-loop : tie.MeasureT-loop
-μ-loop l₀ at t n j₀ l j = n - j
-
-slice-aggregate-store : tie.Need-slice-aggregate-store Inv-loop μ-loop
+slice-aggregate-store : tie.Need-slice-aggregate-store
 slice-aggregate-store c = search needs
 
-store-requires : tie.Need-store-requires Inv-loop μ-loop
+store-requires : tie.Need-store-requires
 store-requires c κs = search needs
 
-sub-n : tie.Need-sub-n Inv-loop μ-loop
-sub-n c = omega arith
+sub-n : tie.Need-sub-n
+sub-n c = search needs
 
-loop-holds : tie.Need-loop-holds Inv-loop μ-loop
-loop-holds c = (refl, omega arith, refl, omega arith, paste-zero (now (c .before .before .before .before .args .l)) (c .before .before .before .before .args .at) (c .before .store .last .0))
+array-share-prefix-t : tie.Need-array-share-prefix-t
+array-share-prefix-t c = search needs
 
-array-read-l : tie.Need-array-read-l Inv-loop μ-loop
-array-read-l c = search needs
+slice-aggregate-copy-to : tie.Need-slice-aggregate-copy-to
+slice-aggregate-copy-to c = count-take _ _ (omega arith)
 
-add-l : tie.Need-add-l Inv-loop μ-loop
-add-l c = omega arith
+copy-to-requires : tie.Need-copy-to-requires
+copy-to-requires c κs = simp length-take (omega arith)
 
-slice-write-l : tie.Need-slice-write-l Inv-loop μ-loop
-slice-write-l c = omega arith
+same-length : tie.Need-same-length
+same-length c = search needs
 
-add-j : tie.Need-add-j Inv-loop μ-loop
-add-j c = omega arith
-
-loop-less : tie.Need-loop-less Inv-loop μ-loop
-loop-less c = omega arith
-
-loop-again : tie.Need-loop-again Inv-loop μ-loop
-loop-again c =
-    let i : c .before .before .before .before .before .before .args .at + c .before .loop .j < length (now (c .before .before .before .before .before .before .args .l)) = omega arith in
-    let k : c .before .loop .j < length (c .before .before .before .store .last .0) = omega arith in
-    (refl, omega arith, simp length-set (omega arith), omega arith, paste-turn _ _ _ _ _ _ i k (c .before .loop .inv .4) refl)
-
-same-length : tie.Need-same-length Inv-loop μ-loop
-same-length c = omega arith
-
-returns : tie.Need-returns Inv-loop μ-loop
-returns c = paste-end (now (c .before .before .before .before .before .before .args .l)) (c .before .before .before .before .before .before .args .at) _ (c .before .before .before .store .last .0) _ (c .before .loop .j) (c .before .loop .inv .4) (omega arith) (omega arith) (alone _ _ (c .before .before .before .store .ensures))
+returns : tie.Need-returns
+returns c =
+    let s = c .before .before .before .before .before .before .before .before .before .args in
+    let b = c .before .before .before .before .before .before .store in
+    let n = length (now (s .l)) - s .at in
+    c .before .before .copy-to .ensures ∙ copied-end (now (s .l)) (s .at) (take n (b .last .0)) (simp length-take (omega arith))
+    ∙ ap (λ (x : List ℕ). take (s .at) (now (s .l)) ++ take n x) (alone _ _ (b .ensures))
 
 pub store-front-spec : {M : Type 1} → statement M
 store-front-spec =
     tie.close
     (tie.spec
-    Inv-loop
-    μ-loop
     slice-aggregate-store
     store-requires
     sub-n
-    loop-holds
-    array-read-l
-    add-l
-    slice-write-l
-    add-j
-    loop-less
-    loop-again
+    array-share-prefix-t
+    slice-aggregate-copy-to
+    copy-to-requires
     same-length
     returns)
