@@ -11,7 +11,7 @@ use Rattle.aes.specs.declared.Word.{Word}
 use Rattle.aes.specs.declared.State.{State}
 use Rattle.field.proofs.Xor.{⊕-lt, xTimes-lt}
 use Rattle.field.proofs.Boxes.{sBox-lt, invSBox-lt}
-use Rattle.aes.proofs.Columns.{mix, invMix, mixed, mixColumn-mixed, invMixColumn-mixed}
+use Rattle.aes.proofs.MixColumns.{mix, invMix, mixed, mixColumn-mixed, invMixColumn-mixed}
 
 pub record ByteWord (w : Word) : Type 0 where
   pub r0 : w .r0 < 256

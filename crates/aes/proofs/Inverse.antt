@@ -12,7 +12,7 @@ use Rattle.aes.specs.declared.Word.{Word}
 use Rattle.aes.specs.declared.State.{State}
 use Rattle.field.proofs.Xor.{⊕-assoc, ⊕-self, ⊕-zero}
 use Rattle.field.proofs.Boxes.{invSBox-sBox, sBox-invSBox}
-use Rattle.aes.proofs.Columns.{mix, invMix, mixed, mixColumn-mixed, invMixColumn-mixed, unmixed, remixed}
+use Rattle.aes.proofs.MixColumns.{mix, invMix, mixed, mixColumn-mixed, invMixColumn-mixed, unmixed, remixed}
 use Rattle.aes.proofs.ByteStates.{ByteWord, ByteState, mixColumn-bytes, invMixColumn-bytes, subBytes-bytes, shiftRows-bytes, mixColumns-bytes, addRoundKey-bytes, invShiftRows-bytes, invSubBytes-bytes, roundKey-bytes, rounds-bytes, invRound-bytes}
 
 -- ---- words

@@ -13,7 +13,7 @@ use Rattle.aes.specs.Words.{wordAt, addWord, subWord, rotWord}
 use Rattle.aes.specs.Bytes.{wordBytes, putAt}
 use Rattle.aes.specs.KeyExpansion.{xPower, rcon, temp, nextWord, expanded, keyExpansion}
 use Rattle.aes.specs.declared.Word.{Word}
-use Rattle.aes.proofs.Seams.{put-seam, front}
+use Rattle.aes.proofs.Appended.{put-seam, front}
 
 pub xPower-next : (i : ℕ) → xPower (i + 1) ≡ xTimes (xPower i)
 unfolding xPower

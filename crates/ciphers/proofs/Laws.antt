@@ -9,13 +9,13 @@ use Rattle.lists.specs.Bytes.{ByteList}
 use Rattle.aes.specs.KeyExpansion.{roundsOf, keyExpansion}
 use Rattle.aes.proofs.ByteStates.{ByteState, cipher-bytes}
 use Rattle.lists.proofs.ByteStrings.{take-bytes, drop-bytes}
-use Rattle.aes.proofs.Spread.{keyExpansion-bytes}
+use Rattle.aes.proofs.ScheduleBytes.{keyExpansion-bytes}
 use Rattle.modes.specs.Xts.{lowWord, numberBlock, xtsAesEnc, xtsAesDec}
 use Rattle.modes.specs.Cts.{cbcCs3Encrypt, cbcCs3Decrypt}
 use Rattle.modes.specs.Ecb.{ecbBlocks}
-use Rattle.modes.proofs.EachBlock.{length-ecbBlocks, ecbBlocks-bytes}
-use Rattle.modes.proofs.Opened.{numberBlock-bytes, xts-dec-enc, xts-enc-dec, length-xtsAesEnc, length-xtsAesDec}
-use Rattle.modes.proofs.Returned.{cts-round-trip, length-cbcCs3Encrypt, length-cbcCs3Decrypt, cbcCs3Encrypt-bytes}
+use Rattle.modes.proofs.EcbBlocks.{length-ecbBlocks, ecbBlocks-bytes}
+use Rattle.modes.proofs.XtsRoundTrip.{numberBlock-bytes, xts-dec-enc, xts-enc-dec, length-xtsAesEnc, length-xtsAesDec}
+use Rattle.modes.proofs.CtsRoundTrip.{cts-round-trip, length-cbcCs3Encrypt, length-cbcCs3Decrypt, cbcCs3Encrypt-bytes}
 use Rattle.ciphers.specs.Entries.{answer, zeroBlock, ctsFits, ctsEncrypt, ctsDecrypt, xtsFits, tweakOf, xtsEncrypt, xtsDecrypt, ecbFits, ecbEncrypt}
 use Rattle.ciphers.proofs.Fits.{cts-sizes, xts-sizes, ecb-sizes}
 

@@ -11,7 +11,7 @@ use Rattle.aes.specs.Cipher.{cipher}
 use Rattle.aes.specs.KeyExpansion.{roundsOf, keyExpansion}
 use Rattle.aes.specs.declared.State.{State}
 use Rattle.aes.proofs.Schedule.{length-keyExpansion}
-use Rattle.aes.proofs.Put.{take-putAt}
+use Rattle.aes.proofs.PutAt.{take-putAt}
 use Rattle.modes.specs.Xts.{lowWord, numberBlock}
 use Rattle.modes.specs.Ecb.{ecbBlocks}
 use Rattle.ciphers.specs.Entries.{zeroBlock, tweakOf}

@@ -17,8 +17,8 @@ use Rattle.modes.specs.Cts.{filledWord, filled}
 use Rattle.field.proofs.Xor.{zero-⊕}
 use Rattle.aes.specs.declared.Word.{Word}
 use Rattle.aes.specs.declared.State.{State}
-use Rattle.aes.proofs.Columns.{word-eq}
-use Rattle.aes.proofs.Seams.{front, length-state}
+use Rattle.aes.proofs.MixColumns.{word-eq}
+use Rattle.aes.proofs.Appended.{front, length-state}
 
 -- ---- blocks of a list
 

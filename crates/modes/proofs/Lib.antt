@@ -1,8 +1,8 @@
 -- The laws of modes. Public are those that a crate above cites.
-pub mod Returned
-pub mod Opened
-pub mod EachBlock
-mod Walks
+pub mod CtsRoundTrip
+pub mod XtsRoundTrip
+pub mod EcbBlocks
+mod BlockLoop
 mod Blocks
-mod Trips
-mod Stolen
+mod RoundTrip
+mod CtsSteal

@@ -3,7 +3,7 @@ use Prim.Native.Nat.{ℕ, _+_, _-_, _≤_, _<_}
 use native.Mathlib.Omega.{arith}
 use mathlib.Core.Path.{_≡_, refl}
 use Rattle.aes.specs.Cipher.{roundKey, rounds}
-use Rattle.aes.proofs.Steps.{rounds-next, cipher-by}
+use Rattle.aes.proofs.Rounds.{rounds-next, cipher-by}
 use borrow.Author.Needs.{needs}
 use Rattle.aes.proofs.cipher.cipher.Statement.{statement}
 use Rattle.aes.proofs.cipher.cipher.Tie as tie

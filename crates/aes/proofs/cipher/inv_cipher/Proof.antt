@@ -3,7 +3,7 @@ use Prim.Native.Nat.{ℕ, _+_, _-_, _≤_, _<_}
 use native.Mathlib.Omega.{arith}
 use mathlib.Core.Path.{_≡_, refl}
 use Rattle.aes.specs.Cipher.{roundKey, invRounds}
-use Rattle.aes.proofs.Steps.{invRounds-turn, invCipher-by}
+use Rattle.aes.proofs.Rounds.{invRounds-turn, invCipher-by}
 use borrow.Author.Needs.{needs}
 use Rattle.aes.proofs.cipher.inv_cipher.Statement.{statement}
 use Rattle.aes.proofs.cipher.inv_cipher.Tie as tie

@@ -1,6 +1,6 @@
 -- `states::store` meets its contract: by the law `put-four`, from what its calls ensure. Assumes nothing.
 use denote.Ref.{now}
-use Rattle.aes.proofs.Put.{put-four}
+use Rattle.aes.proofs.PutAt.{put-four}
 use borrow.Author.Needs.{needs}
 use Rattle.aes.proofs.states.store.Statement.{statement}
 use Rattle.aes.proofs.states.store.Tie as tie

@@ -1,5 +1,5 @@
 -- `words::inv_mix_column` meets its contract: by the law `invMixColumn-rows`. Assumes nothing.
-use Rattle.aes.proofs.Columns.{mixed, invMixColumn-rows}
+use Rattle.aes.proofs.MixColumns.{mixed, invMixColumn-rows}
 use borrow.Author.Needs.{needs}
 use Rattle.aes.proofs.words.inv_mix_column.Statement.{statement}
 use Rattle.aes.proofs.words.inv_mix_column.Tie as tie

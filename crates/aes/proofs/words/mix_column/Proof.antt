@@ -1,5 +1,5 @@
 -- `words::mix_column` meets its contract: by the law `mixColumn-rows`. Assumes nothing.
-use Rattle.aes.proofs.Columns.{mixed, mixColumn-rows}
+use Rattle.aes.proofs.MixColumns.{mixed, mixColumn-rows}
 use borrow.Author.Needs.{needs}
 use Rattle.aes.proofs.words.mix_column.Statement.{statement}
 use Rattle.aes.proofs.words.mix_column.Tie as tie

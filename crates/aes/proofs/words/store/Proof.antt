@@ -1,7 +1,7 @@
 -- `words::store` meets its contract: the search closes what is left. Assumes nothing.
 use native.Mathlib.Omega.{arith}
 use lib.ListN.{length-set}
-use Rattle.aes.proofs.Put.{stores}
+use Rattle.aes.proofs.PutAt.{stores}
 use borrow.Author.Needs.{needs}
 use Rattle.aes.proofs.words.store.Statement.{statement}
 use Rattle.aes.proofs.words.store.Tie as tie

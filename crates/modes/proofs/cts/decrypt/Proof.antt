@@ -4,7 +4,7 @@ use native.Mathlib.Omega.{arith}
 use mathlib.Core.Path.{_≡_, refl, sym, ap, ap₂, _∙_}
 use lib.ListN.{length, getD}
 use denote.Ref.{now}
-use Rattle.modes.proofs.Stolen.{decrypted-long, decrypted-one}
+use Rattle.modes.proofs.CtsSteal.{decrypted-long, decrypted-one}
 use borrow.Author.Needs.{needs}
 use Rattle.modes.proofs.cts.decrypt.Statement.{statement}
 use Rattle.modes.proofs.cts.decrypt.Tie as tie

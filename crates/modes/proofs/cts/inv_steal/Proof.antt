@@ -6,8 +6,8 @@ use mathlib.Core.Path.{_≡_, refl, sym, ap, ap₂, _∙_}
 use lib.ListN.{length, getD}
 use denote.Ref.{now}
 use Rattle.modes.specs.Cts.{cbcInvStep, cbcInvNext}
-use Rattle.modes.proofs.Walks.{Going, going-start, going-turn}
-use Rattle.modes.proofs.Stolen.{unsteal-by}
+use Rattle.modes.proofs.BlockLoop.{Going, going-start, going-turn}
+use Rattle.modes.proofs.CtsSteal.{unsteal-by}
 use Rattle.modes.proofs.cts.inv_steal.Statement.{statement}
 use Rattle.modes.proofs.cts.inv_steal.Tie as tie
 

@@ -1,8 +1,8 @@
 -- `cts::steal` meets its contract: by the invariant of its loop and `steal-by`. Assumes nothing.
 use denote.Ref.{now}
 use Rattle.modes.specs.Cts.{cbcStep, cbcNext}
-use Rattle.modes.proofs.Walks.{Going, going-start, going-turn}
-use Rattle.modes.proofs.Stolen.{steal-by}
+use Rattle.modes.proofs.BlockLoop.{Going, going-start, going-turn}
+use Rattle.modes.proofs.CtsSteal.{steal-by}
 use Prim.Native.Nat.{ℕ, _+_, _*_, _≤_, _<_, _-_}
 use native.Mathlib.Omega.{arith}
 use mathlib.Core.Path.{_≡_, refl, sym, ap, ap₂, _∙_}

@@ -8,7 +8,7 @@ use lib.ListN.{length, take, length-take}
 use borrow.Author.Needs.{needs}
 use Rattle.lists.proofs.ByteStrings.{count-take}
 use Rattle.lists.proofs.Copies.{copied-end}
-use Rattle.aes.proofs.Put.{alone}
+use Rattle.aes.proofs.PutAt.{alone}
 use Rattle.modes.proofs.cts.store_front.Statement.{statement}
 use Rattle.modes.proofs.cts.store_front.Tie as tie
 

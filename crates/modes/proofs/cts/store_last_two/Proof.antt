@@ -4,7 +4,7 @@ use native.Mathlib.Omega.{arith}
 use mathlib.Core.Path.{_≡_, refl, sym, ap, ap₂, _∙_}
 use lib.ListN.{length, getD}
 use denote.Ref.{now}
-use Rattle.modes.proofs.Stolen.{finish-by}
+use Rattle.modes.proofs.CtsSteal.{finish-by}
 use borrow.Author.Needs.{needs}
 use Rattle.modes.proofs.cts.store_last_two.Statement.{statement}
 use Rattle.modes.proofs.cts.store_last_two.Tie as tie

@@ -4,8 +4,8 @@ use native.Mathlib.Omega.{arith}
 use mathlib.Core.Path.{_≡_, refl, sym, _∙_, ap}
 use lib.ListN.{length}
 use Rattle.modes.specs.Xts.{numberBlock}
-use Rattle.modes.proofs.EachBlock.{ecbStep, ecbNext, ecb-walked}
-use Rattle.modes.proofs.Walks.{Going, going-start, going-turn, going-end}
+use Rattle.modes.proofs.EcbBlocks.{ecbStep, ecbNext, ecb-walked}
+use Rattle.modes.proofs.BlockLoop.{Going, going-start, going-turn, going-end}
 use borrow.Author.Needs.{needs}
 use Rattle.modes.proofs.ecb.encrypt.Statement.{statement}
 use Rattle.modes.proofs.ecb.encrypt.Tie as tie

@@ -7,7 +7,7 @@ use mathlib.Core.List.{_++_}
 use denote.Ref.{now}
 use Rattle.modes.specs.Walk.{walked, carried}
 use Rattle.modes.specs.Xts.{blockEnc, nextTweak, xtsAesEnc}
-use Rattle.modes.proofs.Walks.{Going, going-start, going-turn, going-end}
+use Rattle.modes.proofs.BlockLoop.{Going, going-start, going-turn, going-end}
 use borrow.Author.Needs.{needs}
 use Rattle.modes.proofs.xts.encrypt.Statement.{statement}
 use Rattle.modes.proofs.xts.encrypt.Tie as tie

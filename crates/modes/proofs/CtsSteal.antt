@@ -12,12 +12,12 @@ use Rattle.aes.specs.Bytes.{putAt, stateBytes}
 use Rattle.aes.specs.Cipher.{invCipher}
 use Rattle.aes.specs.declared.Word.{Word}
 use Rattle.aes.specs.declared.State.{State}
-use Rattle.aes.proofs.Put.{length-putAt, take-putAt}
-use Rattle.aes.proofs.Seams.{length-state, getD-seam, seam-at}
+use Rattle.aes.proofs.PutAt.{length-putAt, take-putAt}
+use Rattle.aes.proofs.Appended.{length-state, getD-seam, seam-at}
 use Rattle.modes.specs.Walk.{carried, walked}
 use Rattle.modes.specs.Xts.{lowWord, numberBlock}
 use Rattle.modes.specs.Cts.{cbcStep, cbcNext, cbcInvStep, cbcInvNext, lastTwo, invLastTwo, filledWord, filled, cs3Encrypt, cs3Decrypt, cbcCs3Encrypt, cbcCs3Decrypt}
-use Rattle.modes.proofs.Walks.{Going, going-start, going-turn, going-end, length-walked}
+use Rattle.modes.proofs.BlockLoop.{Going, going-start, going-turn, going-end, length-walked}
 
 -- zeros are what a block is filled with
 pub stateAt-filled : (l : List ℕ) (i : ℕ) (z : State) → z ≡ numberBlock 0 → filled l i z ≡ stateAt l i

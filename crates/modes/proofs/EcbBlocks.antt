@@ -1,4 +1,4 @@
--- ECB as a walk over blocks to which nothing is carried: the loop laws of Walks.antt serve it too. Its length is kept, and its result is bytes.
+-- ECB as a walk over blocks to which nothing is carried: the loop laws of BlockLoop.antt serve it too. Its length is kept, and its result is bytes.
 -- Assumes nothing.
 use mathlib.Core.Path.{_≡_, refl, ap, ap₂, _∙_, sym, subst}
 use mathlib.Core.List.{List, _++_}
@@ -10,11 +10,11 @@ use Rattle.lists.specs.Bytes.{ByteList}
 use Rattle.aes.specs.Cipher.{cipher}
 use Rattle.aes.specs.declared.State.{State}
 use Rattle.aes.proofs.ByteStates.{cipher-bytes}
-use Rattle.aes.proofs.Spread.{stateAt-bytes}
+use Rattle.aes.proofs.ScheduleBytes.{stateAt-bytes}
 use Rattle.modes.specs.Walk.{carried, walked}
 use Rattle.modes.specs.Xts.{numberBlock}
 use Rattle.modes.specs.Ecb.{ecbBlocks}
-use Rattle.modes.proofs.Walks.{length-walked, walked-bytes}
+use Rattle.modes.proofs.BlockLoop.{length-walked, walked-bytes}
 
 abbrev pub ecbStep : List ℕ → ℕ → State → State → State
 ecbStep w nr c p = cipher w nr p

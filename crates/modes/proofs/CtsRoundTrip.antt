@@ -12,17 +12,17 @@ use Rattle.aes.specs.Bytes.{stateBytes}
 use Rattle.lists.specs.Bytes.{ByteList}
 use Rattle.aes.specs.Cipher.{invCipher}
 use Rattle.aes.specs.declared.State.{State}
-use Rattle.aes.proofs.Seams.{length-state}
+use Rattle.aes.proofs.Appended.{length-state}
 use Rattle.aes.proofs.ByteStates.{ByteState, addRoundKey-bytes, cipher-bytes}
 use Rattle.aes.proofs.Inverse.{added-twice, invCipher-cipher}
 use Rattle.lists.proofs.ByteStrings.{append-bytes, take-bytes}
-use Rattle.aes.proofs.Spread.{stateBytes-bytes, stateAt-bytes}
+use Rattle.aes.proofs.ScheduleBytes.{stateBytes-bytes, stateAt-bytes}
 use Rattle.modes.specs.Walk.{carried, walked}
 use Rattle.modes.specs.Cts.{cbcStep, cbcNext, cbcInvStep, cbcInvNext, lastTwo, invLastTwo, filled, cs3Encrypt, cs3Decrypt, cbcCs3Encrypt, cbcCs3Decrypt}
-use Rattle.modes.proofs.Walks.{length-walked, walked-bytes}
+use Rattle.modes.proofs.BlockLoop.{length-walked, walked-bytes}
 use Rattle.modes.proofs.Blocks.{take-more, take-last, state-front, blocks-after, filled-again}
-use Rattle.modes.proofs.Trips.{out, written, carried-back, walked-back, unwalked}
-use Rattle.modes.proofs.Stolen.{encrypted-long, encrypted-one, decrypted-long, decrypted-one}
+use Rattle.modes.proofs.RoundTrip.{out, written, carried-back, walked-back, unwalked}
+use Rattle.modes.proofs.CtsSteal.{encrypted-long, encrypted-one, decrypted-long, decrypted-one}
 
 -- ---- lengths
 

@@ -11,10 +11,10 @@ use Rattle.lists.specs.Bytes.{ByteList}
 use Rattle.aes.specs.States.{stateAt}
 use Rattle.aes.specs.declared.State.{State}
 use Rattle.modes.specs.Walk.{carried, walked}
-use Rattle.aes.proofs.Seams.{seam-at, put-seam, length-state}
+use Rattle.aes.proofs.Appended.{seam-at, put-seam, length-state}
 use Rattle.aes.proofs.ByteStates.{ByteState}
 use Rattle.lists.proofs.ByteStrings.{nil-bytes, append-bytes}
-use Rattle.aes.proofs.Spread.{stateBytes-bytes}
+use Rattle.aes.proofs.ScheduleBytes.{stateBytes-bytes}
 
 module _ (step : State → State → State) (next : State → State → State → State) (l : List ℕ) (c : State) where
   pub length-walked : (i : ℕ) → length (walked step next l c i) ≡ 16 * i

@@ -13,11 +13,11 @@ use Rattle.aes.specs.declared.State.{State}
 use Rattle.field.proofs.Xor.{⊕-lt}
 use Rattle.aes.proofs.ByteStates.{ByteWord, ByteState, addRoundKey-bytes}
 use Rattle.aes.proofs.Inverse.{added-twice, invCipher-cipher, cipher-invCipher}
-use Rattle.aes.proofs.Spread.{stateAt-bytes}
+use Rattle.aes.proofs.ScheduleBytes.{stateAt-bytes}
 use Rattle.modes.specs.Walk.{carried, walked}
 use Rattle.modes.specs.Xts.{blockEnc, blockDec, nextTweak, timesAlpha, shiftedWord, xtsAesEnc, xtsAesDec, lowWord, numberBlock}
-use Rattle.modes.proofs.Walks.{length-walked}
-use Rattle.modes.proofs.Trips.{unwalked}
+use Rattle.modes.proofs.BlockLoop.{length-walked}
+use Rattle.modes.proofs.RoundTrip.{unwalked}
 
 shiftedWord-bytes : (w : Word) (x : ℕ) → ByteWord w → x < 256 → ByteWord (shiftedWord w x)
 unfolding shiftedWord
