@@ -21,6 +21,7 @@ isLong n = ltb 255 (length n)
 abbrev pub isNul : ℕ → Bool
 isNul b = eqb b 0
 
+-- 47 is `/`
 abbrev pub isNulOrSlash : ℕ → Bool
 isNulOrSlash b = isNul b || eqb b 47
 

@@ -8,13 +8,13 @@ ghost use lib.ListN.{length, take, drop, getD};
 ghost use Rattle.fscrypt.specs.Names.{nameBytes, packed};
 ghost use Rattle.fscrypt.specs.Encoded;
 
-// The letter for six binary digits.
+// The letter for six binary digits: A to Z, a to z (71 is b'a' - 26), 0 to 9 (52 stands at b'0'), and b'+' and b','.
 fn letter(n: u8) -> u8
     requires { ⌜ n < 64 ⌝ }
     ensures { λ r. ⌜ r ≡ Encoded.letter n ⌝ }
 {
     if n < 26 {
-        return n + 65;
+        return n + b'A';
     }
     if n < 52 {
         return n + 71;
@@ -75,7 +75,7 @@ fn encode_long(s: &[u8], entry: u64) -> Name
     ensures { λ r. ⌜ r ≡ packed (Encoded.encoded (now (s .entry)) entry) ⌝ }
 {
     let mut bytes = put_letters(zeros::zeros255(), 1, &s[..160]);
-    bytes[0] = 95;
+    bytes[0] = b'_';
     bytes[215] = lists::hex_digit((entry / 16 % 16) as u8);
     bytes[216] = lists::hex_digit((entry % 16) as u8);
     Name {

@@ -36,13 +36,13 @@ pub fn copy_to(out: &mut [u8], at: usize, s: &[u8])
     }
 }
 
-// A lower case hex digit.
+// A lower case hex digit: b'a' is 10.
 pub fn hex_digit(n: u8) -> u8
     requires { ⌜ n ≤ 15 ⌝ }
     ensures { λ r. ⌜ r ≡ hexDigit n ⌝ }
 {
     if n < 10 {
-        return n + 48;
+        return n + b'0';
     }
     n + 87
 }

@@ -26,6 +26,7 @@ hexValue b = cond (isDigit b) (b - 48) (cond (isSmall b) (b - 87) (cond (isLarge
 unfoldable pub isHex : Bytes → Bool
 isHex s = leb (length s) (firstAt (λ (b : ℕ). not (isHexDigit b)) s)
 
+-- `=` comes first
 abbrev pub isQuoted : Bytes → Bool
 isQuoted s = eqb (getD s 0 0) 61
 

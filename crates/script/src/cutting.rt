@@ -27,7 +27,7 @@ fn add_byte(line: &mut [u8], used: usize, b: u8) -> usize
         line[last] = b;
         return used;
     }
-    if end == 13 {
+    if end == b'\r' {
         line[last] = b'.';
     }
     used

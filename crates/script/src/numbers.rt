@@ -7,7 +7,7 @@ ghost use Rattle.script.specs.Numbers.{isDigit, numberOf};
 pub fn is_digit(b: u8) -> bool
     ensures { λ r. ⌜ r ≡ isDigit b ⌝ }
 {
-    ranges::is_within(b, 48, 57)
+    ranges::is_within(b, b'0', b'9')
 }
 
 fn wide(b: u8) -> u64
@@ -30,7 +30,7 @@ pub fn number(s: &[u8]) -> Number
         if !is_digit(b) {
             return Number::Not;
         }
-        let d = wide(b) - 48;
+        let d = wide(b - b'0');
         if (u64::MAX - d) / 10 < n {
             return Number::Not;
         }

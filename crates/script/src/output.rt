@@ -35,10 +35,10 @@ fn put_digits(out: &mut [u8], at: usize, n: u64, k: usize) -> usize
         return at;
     }
     if n < 10 {
-        return put_byte(out, at, 48 + n as u8);
+        return put_byte(out, at, b'0' + n as u8);
     }
     let next = put_digits(out, at, n / 10, k - 1);
-    put_byte(out, next, 48 + (n % 10) as u8)
+    put_byte(out, next, b'0' + (n % 10) as u8)
 }
 
 // A number in decimal.
@@ -78,7 +78,7 @@ pub fn put_hex(out: &mut [u8], at: usize, s: &[u8]) -> usize
 fn is_graphic(b: u8) -> bool
     ensures { λ r. ⌜ r ≡ isGraphic b ⌝ }
 {
-    ranges::is_within(b, 33, 126)
+    ranges::is_within(b, b'!', b'~')
 }
 
 fn is_all_graphic(s: &[u8]) -> bool
@@ -100,7 +100,7 @@ pub fn put_name(out: &mut [u8], at: usize, s: &[u8]) -> usize
     ensures { λ r. ⌜ (r ≡ at + length (nameText (now (s .entry)))) × (now (out .exit) ≡ sets (now (out .entry)) at (nameText (now (s .entry)))) ⌝ }
 {
     if is_all_graphic(s) {
-        let next = put_byte(out, at, 61);
+        let next = put_byte(out, at, b'=');
         return put(out, next, s);
     }
     put_hex(out, at, s)

@@ -10,13 +10,13 @@ ghost use Rattle.script.specs.Strings.{isSmall, isLarge, isHexDigit, hex
 fn is_small(b: u8) -> bool
     ensures { λ r. ⌜ r ≡ isSmall b ⌝ }
 {
-    ranges::is_within(b, 97, 102)
+    ranges::is_within(b, b'a', b'f')
 }
 
 fn is_large(b: u8) -> bool
     ensures { λ r. ⌜ r ≡ isLarge b ⌝ }
 {
-    ranges::is_within(b, 65, 70)
+    ranges::is_within(b, b'A', b'F')
 }
 
 fn is_hex_digit(b: u8) -> bool
@@ -31,12 +31,12 @@ fn is_hex_digit(b: u8) -> bool
     is_large(b)
 }
 
-// What a hex digit stands for.
+// What a hex digit stands for: b'a' and b'A' are 10.
 fn hex_value(b: u8) -> u8
     ensures { λ r. ⌜ (r ≡ hexValue b) × (r ≤ 15) ⌝ }
 {
     if is_digit(b) {
-        return b - 48;
+        return b - b'0';
     }
     if is_small(b) {
         return b - 87;
@@ -66,7 +66,7 @@ fn is_quoted(s: &[u8]) -> bool
     if s.len() == 0 {
         return false;
     }
-    s[0] == 61
+    s[0] == b'='
 }
 
 pub fn is_byte_string(s: &[u8]) -> bool

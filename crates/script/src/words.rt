@@ -6,10 +6,10 @@ ghost use Rattle.script.specs.Words.{isBlank, isInk, trimmed, firstWord,
 pub fn is_blank(b: u8) -> bool
     ensures { λ r. ⌜ r ≡ isBlank b ⌝ }
 {
-    if b == 32 {
+    if b == b' ' {
         return true;
     }
-    b == 9
+    b == b'\t'
 }
 
 fn first_ink(s: &[u8]) -> usize

@@ -22,7 +22,7 @@ fn without_return(line: &[u8]) -> &[u8]
     if n == 0 {
         return line;
     }
-    if line[n - 1] == 13 {
+    if line[n - 1] == b'\r' {
         return &line[..n - 1];
     }
     line
@@ -36,7 +36,7 @@ fn is_skipped(line: &[u8]) -> bool
     if w.len() == 0 {
         return true;
     }
-    w[0] == 35
+    w[0] == b'#'
 }
 
 // The request that the words make, or none.

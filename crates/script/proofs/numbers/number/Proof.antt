@@ -2,11 +2,10 @@
 use Prim.Native.Nat.{ℕ, _+_, _*_, _≤_, _-_}
 use Rattle.script.proofs.Picks.{within-low}
 use native.Mathlib.Omega.{arith}
-use mathlib.Core.Bool.{true}
 use mathlib.Core.Path.{_≡_, sym, _∙_, ap}
 use lib.ListN.{length, drop}
 use borrow.Author.Tests.{not-true, not-false}
-use Rattle.script.specs.Numbers.{isDigit, numberOf, digitsFrom}
+use Rattle.script.specs.Numbers.{numberOf, digitsFrom}
 use Rattle.script.proofs.Digits.{no-digits, digits-start, digits-bad, digits-large, digits-next, digits-end}
 use denote.Ref.{now}
 use borrow.Author.Needs.{needs}
@@ -34,14 +33,11 @@ is-digit-requires c κs = search needs
 returns-2 : tie.Need-returns-2 Inv-loop μ-loop
 returns-2 c = let l = c .before .before .before .before .loop in sym (l .inv .1 ∙ digits-bad _ (l .i) (l .n) (omega arith) (sym (c .before .is-digit .ensures) ∙ not-true _ (c .if2 .taken)))
 
+sub-wide : tie.Need-sub-wide Inv-loop μ-loop
+sub-wide c = within-low 48 57 _ (sym (c .before .is-digit .ensures) ∙ not-false _ (c .if2 .left))
+
 wide-requires : tie.Need-wide-requires Inv-loop μ-loop
 wide-requires c κs = search needs
-
-sub-d : tie.Need-sub-d Inv-loop μ-loop
-sub-d c = omega (arith, low _ _ (c .wide .ensures) (sym (c .before .before .is-digit .ensures) ∙ not-false _ (c .before .if2 .left)))
-  where
-    low : (r b : ℕ) → r ≡ b → isDigit b ≡ true → 48 ≤ r
-    low r b e h = omega (arith, within-low 48 57 b h)
 
 sub-if3 : tie.Need-sub-if3 Inv-loop μ-loop
 sub-if3 c = search needs
@@ -62,7 +58,7 @@ loop-less : tie.Need-loop-less Inv-loop μ-loop
 loop-less c = search needs
 
 loop-again : tie.Need-loop-again Inv-loop μ-loop
-loop-again c = let l = c .before .before .before .before .before .before .loop in (omega arith, l .inv .1 ∙ digits-next _ (l .i) (l .n) (omega arith) (sym (c .before .before .before .is-digit .ensures) ∙ not-false _ (c .before .before .if2 .left)) (omega (arith, c .before .wide .ensures)) ∙ ap (λ (k : ℕ). digitsFrom (l .n * 10 + (k - 48)) (drop (l .i + 1) (c .before .before .before .before .before .before .before .before .before .args .s .now))) (sym (c .before .wide .ensures)))
+loop-again c = let l = c .before .before .before .before .before .before .loop in (omega arith, l .inv .1 ∙ digits-next _ (l .i) (l .n) (omega arith) (sym (c .before .before .before .is-digit .ensures) ∙ not-false _ (c .before .before .if2 .left)) (omega (arith, c .before .wide .ensures)) ∙ ap (λ (k : ℕ). digitsFrom (l .n * 10 + k) (drop (l .i + 1) (c .before .before .before .before .before .before .before .before .before .args .s .now))) (sym (c .before .wide .ensures)))
 
 returns-4 : tie.Need-returns-4 Inv-loop μ-loop
 returns-4 c = let l = c .before .loop in sym (l .inv .1 ∙ digits-end (now (c .before .before .before .before .args .s)) (l .i) (l .n) (omega arith))
@@ -78,8 +74,8 @@ number-spec =
     shared-slice-read-b
     is-digit-requires
     returns-2
+    sub-wide
     wide-requires
-    sub-d
     sub-if3
     returns-3
     mul-n
