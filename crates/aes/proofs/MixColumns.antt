@@ -1,6 +1,6 @@
 -- A column mixed: the matrices of MixColumns and InvMixColumns have one row, turned, so each byte of the new column is made by one function of the
 -- bytes from its own row on; and each of the two undoes the other, since the products cancel as sums of xTimes(). Assumes nothing.
-use mathlib.Core.Path.{_≡_, refl, sym, ap, _∙_}
+use mathlib.Core.Path.{_≡_, refl, sym, _∙_}
 use Prim.Native.Nat.{ℕ, _<_}
 use Rattle.field.specs.Field.{_⊕_, xTimes, dot}
 use Rattle.aes.specs.Words.{mixColumn, invMixColumn}

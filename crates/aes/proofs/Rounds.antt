@@ -1,7 +1,7 @@
 -- The rounds of Cipher and InvCipher, in the terms in which code counts them. Assumes nothing.
-use mathlib.Core.Path.{_≡_, refl, sym, ap, _∙_}
+use mathlib.Core.Path.{_≡_, refl, ap, _∙_}
 use mathlib.Core.List.{List}
-use Prim.Native.Nat.{ℕ, zero, suc, _+_, _-_, _<_, _≤_}
+use Prim.Native.Nat.{ℕ, _+_, _-_, _<_, _≤_}
 use native.Mathlib.Numerals.{add-one}
 use native.Mathlib.Omega.{arith}
 use Rattle.aes.specs.Cipher.{roundKey, round, rounds, lastRound, cipher, invRound, invRounds, invLastRound, invCipher}

@@ -1,13 +1,13 @@
 -- How the expansion goes on, in the terms in which code counts. Assumes nothing.
 use mathlib.Core.Path.{_≡_, refl, sym, ap, ap₂, _∙_}
-use mathlib.Core.List.{List, [], _∷_, _++_, append-assoc}
+use mathlib.Core.List.{List, _++_}
 use Prim.Native.Nat.{ℕ, zero, suc, _+_, _-_, _*_, _/_, _%_, _≤_, _<_}
 use native.Mathlib.Numerals.{add-one}
 use native.Mathlib.Nat.{mul-suc, zero-add, le-div-iff-mul-le, div-le-self}
 use native.Mathlib.Decide.{decLt}
 use borrow.Author.Tests.{eq-eqb, ne-eqb, lt-ltb, le-ltb}
 use native.Mathlib.Omega.{arith}
-use lib.ListN.{length, drop, getD, length-append, List·getD-append}
+use lib.ListN.{length, drop, length-append}
 use Rattle.field.specs.Field.{xTimes}
 use Rattle.aes.specs.Words.{wordAt, addWord, subWord, rotWord}
 use Rattle.aes.specs.Bytes.{wordBytes, putAt}

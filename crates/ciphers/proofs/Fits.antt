@@ -1,16 +1,16 @@
 -- What the entries test, and what they answer then: which lengths are taken, and that the answer and the buffer are those of the definition.
 -- Assumes nothing.
-use mathlib.Core.Path.{_≡_, refl, sym, ap, _∙_, subst}
+use mathlib.Core.Path.{_≡_, refl}
 use mathlib.Core.Bool.{Bool, true, false, _&&_, _||_}
 use mathlib.Core.List.{List}
 use mathlib.Core.Logic.{_⊎_, inl, inr, ⊎-elim}
-use Prim.Native.Nat.{ℕ, _+_, _*_, _/_, _%_, _≤_, _<_}
+use Prim.Native.Nat.{ℕ, _*_, _/_, _%_, _≤_}
 use native.Mathlib.Omega.{arith}
 use borrow.Author.Tests.{eqb-true, leb-true}
 use lib.Dec.{eqb, leb}
 use Rattle.lists.proofs.Tests.{and-left, and-right}
 use Rattle.aes.specs.KeyExpansion.{KeySize}
-use Rattle.ciphers.specs.Entries.{Answer, answer, ctsFits, xtsFits, ecbFits}
+use Rattle.ciphers.specs.Entries.{answer, ctsFits, xtsFits, ecbFits}
 use Rattle.ciphers.specs.declared.Status.{Status}
 
 -- ---- tests

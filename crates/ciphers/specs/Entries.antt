@@ -2,7 +2,7 @@
 -- 16 or 32 bytes (XTS: 64), a CTS text outside 16 to 4,096 bytes or an XTS block other than 4,096 is EINVAL, and the buffer stays". Assumes nothing.
 use mathlib.Core.Bool.{Bool, true, false, _&&_, _||_}
 use mathlib.Core.List.{List}
-use Prim.Native.Nat.{ℕ, _+_, _*_, _/_, _%_}
+use Prim.Native.Nat.{ℕ, _/_, _%_}
 use lib.Dec.{eqb, leb}
 use lib.ListN.{length, take, drop}
 use Rattle.errno.specs.Refusals.{number}

@@ -1,13 +1,13 @@
 -- The factors of MixColumns and InvMixColumns: for every byte, what code makes of xTimes() is FIPS 197's product.
 -- Each law is one computed test of the 256 bytes (the table only counts them). Assumes nothing.
-use mathlib.Core.Path.{_≡_, sym, ap, _∙_}
+use mathlib.Core.Path.{_≡_}
 use mathlib.Core.Bool.{Bool}
 use Prim.Native.Nat.{ℕ, _<_}
 use lib.Dec.{eqb, eqb→eq, T}
 use Rattle.field.specs.SBox.{sBoxTable}
 use Rattle.field.specs.Field.{_⊕_, polynomialProduct, reduced, _•_, xTimes, dot}
 use Rattle.field.proofs.Table.{every, at}
-use Rattle.field.proofs.Xor.{⊕-assoc, ⊕-comm, ⊕-left-comm, ⊕-lt, xTimes-lt}
+use Rattle.field.proofs.Xor.{⊕-assoc, ⊕-comm, ⊕-left-comm}
 
 -- the product with n is f, at k
 abbrev agree : ℕ → (ℕ → ℕ) → ℕ → ℕ → Bool

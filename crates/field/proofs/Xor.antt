@@ -1,11 +1,11 @@
 -- The laws of the sum and of doubling: the sum is a commutative group in which each element is its own inverse, and doubling is additive. They hold of all
 -- numbers. Assumes nothing.
 use mathlib.Core.Path.{_≡_, refl, sym, ap, ap₂, _∙_}
-use Prim.Native.Nat.{ℕ, zero, suc, _+_, _*_, _/_, _%_, _^_, _≤_, _<_, zero-le, suc-le-suc}
-use native.Mathlib.Nat.{mod-lt, add-zero, div-add-mod', zero-lt-suc, le-refl, not-suc-le-zero, le-of-suc-le-suc}
+use Prim.Native.Nat.{ℕ, zero, suc, _+_, _*_, _/_, _%_, _<_}
+use native.Mathlib.Nat.{mod-lt, add-zero, zero-lt-suc, le-refl}
 use native.Mathlib.Omega.{arith}
 use lib.Dec.{lit<}
-use lib.Arith.{bin-ind, digits-div, digits-mod}
+use lib.Arith.{bin-ind, digits-mod}
 use lib.Bits.{bitXor, differ, xor-step, xor-comm, xor-zero-l, xor-zero-r, xor-self, xor-shr, xor-mod, xor-lt, xor-block}
 use Rattle.field.specs.Field.{_⊕_, xTimes}
 

@@ -2,7 +2,7 @@
 use mathlib.Core.List.{List, [], _∷_}
 use Prim.Native.Nat.{ℕ, _+_, _-_, _*_, _/_, _%_, _^_}
 use lib.ListN.{getD}
-use Rattle.field.specs.Field.{_⊕_, inverse}
+use Rattle.field.specs.Field.{_⊕_}
 
 -- a byte turned k places towards its high end
 unfoldable pub rotl : ℕ → ℕ → ℕ

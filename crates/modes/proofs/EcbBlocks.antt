@@ -1,6 +1,6 @@
 -- ECB as a walk over blocks to which nothing is carried: the loop laws of BlockLoop.antt serve it too. Its length is kept, and its result is bytes.
 -- Assumes nothing.
-use mathlib.Core.Path.{_≡_, refl, ap, ap₂, _∙_, sym, subst}
+use mathlib.Core.Path.{_≡_, refl, ap, _∙_, sym, subst}
 use mathlib.Core.List.{List, _++_}
 use Prim.Native.Nat.{ℕ, zero, suc, _*_}
 use lib.ListN.{length}
@@ -11,7 +11,7 @@ use Rattle.aes.specs.Cipher.{cipher}
 use Rattle.aes.specs.declared.State.{State}
 use Rattle.aes.proofs.ByteStates.{cipher-bytes}
 use Rattle.aes.proofs.ScheduleBytes.{stateAt-bytes}
-use Rattle.modes.specs.Walk.{carried, walked}
+use Rattle.modes.specs.Walk.{walked}
 use Rattle.modes.specs.Xts.{numberBlock}
 use Rattle.modes.specs.Ecb.{ecbBlocks}
 use Rattle.modes.proofs.BlockLoop.{length-walked, walked-bytes}

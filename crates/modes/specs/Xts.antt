@@ -1,6 +1,6 @@
 -- XTS-AES, IEEE 1619 section 5, over data units of whole blocks. Assumes nothing.
 use mathlib.Core.List.{List}
-use Prim.Native.Nat.{ℕ, _+_, _*_, _/_, _%_}
+use Prim.Native.Nat.{ℕ, _*_, _/_, _%_}
 use Rattle.field.specs.Field.{_⊕_}
 use Rattle.aes.specs.States.{addRoundKey}
 use Rattle.aes.specs.Cipher.{cipher, invCipher}

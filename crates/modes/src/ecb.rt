@@ -2,7 +2,7 @@
 use aes::cipher;
 use aes::states;
 ghost use mathlib.Core.Path.{_≡_};
-ghost use Prim.Native.Nat.{_+_, _*_, _≤_, _<_};
+ghost use Prim.Native.Nat.{_*_, _<_};
 ghost use lib.ListN.{length};
 ghost use Rattle.aes.specs.Cipher.{Keyed};
 ghost use Rattle.field.specs.SBox.{sBoxTable};

@@ -1,7 +1,7 @@
 -- Request lines: the request's word, and the words that it takes, read from left to right. Quotations are the request script's. Assumes nothing.
 use Prim.Native.Nat.{ℕ}
 use mathlib.Core.Bool.{Bool, true, false, cond, _&&_}
-use mathlib.Core.List.{[], _∷_}
+use mathlib.Core.List.{[]}
 use lib.ListN.{length}
 use lib.Dec.{eqb}
 use Rattle.lists.specs.Bytes.{Bytes, same, zeros, isEmpty}

@@ -9,10 +9,9 @@ use crate::words;
 ghost use mathlib.Core.Path.{_≡_};
 ghost use Prim.Native.Nat.{_≤_};
 ghost use lib.ListN.{length, take};
-ghost use Rattle.lists.specs.Bytes.{zeros};
 ghost use Rattle.script.specs.Words.{afterWord};
 ghost use Rattle.script.specs.Strings.{bytesOf};
-ghost use Rattle.script.specs.Commands.{noArgs, bad, withFirst, setSecond, withSecond, withLen, withDescriptor, withNonce, isBytes, taken, takenText, reading, nextTwo, readWords};
+ghost use Rattle.script.specs.Commands.{noArgs, bad, setSecond, withNonce, isBytes, taken, takenText, reading, nextTwo, readWords};
 ghost use Rattle.script.specs.declared.Sort.the-variants.{First, Second, Text, Descriptor, Nonce, Size, Nothing};
 
 fn no_args() -> Args

@@ -11,8 +11,7 @@ use volume::Volume;
 ghost use mathlib.Core.Path.{_≡_};
 ghost use Prim.Native.Nat.{_+_, _*_, _≤_};
 ghost use lib.ListN.{length, take};
-ghost use Rattle.session.specs.Answers.{malformed};
-ghost use Rattle.session.specs.Lines.{withoutReturn, isSkipped, directed, commanded, ended, answered, Responds, Answers};
+ghost use Rattle.session.specs.Lines.{withoutReturn, isSkipped, directed, commanded, answered, Responds, Answers};
 
 // One carriage return at the end is dropped.
 fn without_return(line: &[u8]) -> &[u8]

@@ -1,5 +1,5 @@
 -- `ecb_encrypt` answers as ecbEncrypt says: where the lengths fit, by what the cipher ensures; else EINVAL, and the buffer is as it was. Assumes nothing.
-use mathlib.Core.Path.{_≡_, sym, _∙_}
+use mathlib.Core.Path.{sym, _∙_}
 use lib.ListN.{length}
 use denote.Ref.{now}
 use borrow.Author.Needs.{needs}

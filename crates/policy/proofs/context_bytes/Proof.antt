@@ -3,7 +3,7 @@ use mathlib.Core.Path.{_≡_, refl}
 use native.Mathlib.Omega.{arith}
 use lib.ListN.{length, replicate}
 use borrow.Author.Needs.{needs}
-use Rattle.policy.proofs.Writing.{descriptor-length, context-put}
+use Rattle.policy.proofs.Writing.{context-put}
 use Rattle.policy.proofs.context_bytes.Statement.{statement}
 use Rattle.policy.proofs.context_bytes.Tie as tie
 

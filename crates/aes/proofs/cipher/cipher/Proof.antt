@@ -1,5 +1,5 @@
 -- `cipher::cipher` meets its contract: by the invariant of its loop and `cipher-by`. Assumes nothing.
-use Prim.Native.Nat.{ℕ, _+_, _-_, _≤_, _<_}
+use Prim.Native.Nat.{_-_, _≤_}
 use native.Mathlib.Omega.{arith}
 use mathlib.Core.Path.{_≡_, refl}
 use Rattle.aes.specs.Cipher.{roundKey, rounds}

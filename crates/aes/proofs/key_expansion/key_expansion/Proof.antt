@@ -2,10 +2,10 @@
 use mathlib.Core.List.{_++_}
 use Rattle.aes.specs.KeyExpansion.{expanded}
 use Rattle.aes.proofs.Schedule.{expand-turn, expand-end}
-use Prim.Native.Nat.{ℕ, _+_, _*_, _≤_, _<_, _-_, _/_}
+use Prim.Native.Nat.{_+_, _*_, _≤_, _-_, _/_}
 use native.Mathlib.Omega.{arith}
-use mathlib.Core.Path.{_≡_, refl, sym, ap, ap₂, _∙_}
-use lib.ListN.{length, getD, drop}
+use mathlib.Core.Path.{_≡_, refl}
+use lib.ListN.{length, drop}
 use borrow.Author.Needs.{needs}
 use Rattle.aes.proofs.key_expansion.key_expansion.Statement.{statement}
 use Rattle.aes.proofs.key_expansion.key_expansion.Tie as tie

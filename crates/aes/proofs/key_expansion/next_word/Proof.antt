@@ -1,6 +1,5 @@
 -- `key_expansion::next_word` meets its contract: by the laws `nextWord-key`, `nextWord-later`, from what its calls ensure. Assumes nothing.
 use Rattle.aes.proofs.Schedule.{nextWord-key, nextWord-later}
-use native.Mathlib.Omega.{arith}
 use borrow.Author.Needs.{needs}
 use Rattle.aes.proofs.key_expansion.next_word.Statement.{statement}
 use Rattle.aes.proofs.key_expansion.next_word.Tie as tie

@@ -1,10 +1,9 @@
 -- `key_expansion::x_power` meets its contract: by the invariant of its loop. Assumes nothing.
 use Rattle.aes.specs.KeyExpansion.{xPower}
 use Rattle.aes.proofs.Schedule.{xPower-next}
-use Prim.Native.Nat.{ℕ, _+_, _*_, _≤_, _<_, _-_}
+use Prim.Native.Nat.{_≤_, _-_}
 use native.Mathlib.Omega.{arith}
-use mathlib.Core.Path.{_≡_, refl, sym, ap, ap₂, _∙_}
-use lib.ListN.{length, getD}
+use mathlib.Core.Path.{_≡_, refl}
 use borrow.Author.Needs.{needs}
 use Rattle.aes.proofs.key_expansion.x_power.Statement.{statement}
 use Rattle.aes.proofs.key_expansion.x_power.Tie as tie

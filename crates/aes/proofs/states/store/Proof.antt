@@ -1,5 +1,4 @@
 -- `states::store` meets its contract: by the law `put-four`, from what its calls ensure. Assumes nothing.
-use denote.Ref.{now}
 use Rattle.aes.proofs.PutAt.{put-four}
 use borrow.Author.Needs.{needs}
 use Rattle.aes.proofs.states.store.Statement.{statement}

@@ -1,8 +1,7 @@
 -- `keys::cts_encrypt` meets its contract: the part of the array that is lent is the key schedule, and the first block is zeros. Assumes nothing.
-use Prim.Native.Nat.{ℕ, _+_, _*_, _/_, _≤_}
+use Prim.Native.Nat.{_+_, _*_, _/_}
 use native.Mathlib.Omega.{arith}
-use mathlib.Core.Path.{_≡_, refl}
-use lib.ListN.{length, take}
+use lib.ListN.{length}
 use denote.Ref.{now}
 use Rattle.lists.proofs.ByteStrings.{count-take}
 use Rattle.ciphers.proofs.Schedules.{under}

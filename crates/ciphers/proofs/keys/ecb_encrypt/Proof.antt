@@ -1,8 +1,5 @@
 -- `keys::ecb_encrypt` meets its contract: by the law `under-128`, from what its calls ensure. Assumes nothing.
-use Prim.Native.Nat.{ℕ, _+_, _*_, _/_, _≤_}
 use native.Mathlib.Omega.{arith}
-use mathlib.Core.Path.{_≡_, refl}
-use lib.ListN.{length, take}
 use denote.Ref.{now}
 use Rattle.lists.proofs.ByteStrings.{count-take}
 use Rattle.ciphers.proofs.Schedules.{under-128}

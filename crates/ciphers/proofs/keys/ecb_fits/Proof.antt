@@ -1,10 +1,5 @@
 -- `keys::ecb_fits` meets its contract: by the laws `eq-eqb`, `le-leb`. Assumes nothing.
-use Prim.Native.Nat.{ℕ, _+_, _*_, _≤_, _<_, _-_}
-use native.Mathlib.Omega.{arith}
-use mathlib.Core.Path.{_≡_, refl, sym, ap, ap₂, _∙_}
-use lib.ListN.{length, getD}
-use denote.Ref.{now}
-use borrow.Author.Tests.{eq-eqb, ne-eqb, le-leb, lt-leb, lt-ltb, le-ltb}
+use borrow.Author.Tests.{eq-eqb, ne-eqb, le-leb, lt-leb}
 use Rattle.ciphers.specs.Entries.{ecbFits}
 use Rattle.ciphers.proofs.keys.ecb_fits.Statement.{statement}
 use Rattle.ciphers.proofs.keys.ecb_fits.Tie as tie

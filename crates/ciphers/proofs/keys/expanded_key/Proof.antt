@@ -1,9 +1,4 @@
 -- `keys::expanded_key` meets its contract: by the law `schedule-by`, from what its calls ensure. Assumes nothing.
-use Prim.Native.Nat.{ℕ, _+_, _*_, _/_, _≤_}
-use native.Mathlib.Omega.{arith}
-use mathlib.Core.Path.{_≡_, refl}
-use lib.ListN.{length, take}
-use denote.Ref.{now}
 use Rattle.ciphers.proofs.Schedules.{schedule-by}
 use borrow.Author.Needs.{needs}
 use Rattle.ciphers.proofs.keys.expanded_key.Statement.{statement}

@@ -1,8 +1,4 @@
 -- `keys::tweak` meets its contract: by the laws `tweak-by`, `part-to-end`, from what its calls ensure. Assumes nothing.
-use Prim.Native.Nat.{ℕ, _+_, _*_, _/_, _≤_}
-use native.Mathlib.Omega.{arith}
-use mathlib.Core.Path.{_≡_, refl}
-use lib.ListN.{length, take}
 use denote.Ref.{now}
 use Rattle.ciphers.proofs.Schedules.{tweak-by}
 use borrow.Rule.Slice.PartAt.{part-to-end}

@@ -1,7 +1,6 @@
 -- `keys::xts_encrypt` meets its contract: by the law `under-half`, from what its calls ensure. Assumes nothing.
-use Prim.Native.Nat.{ℕ, _+_, _*_, _/_, _≤_}
 use native.Mathlib.Omega.{arith}
-use mathlib.Core.Path.{_≡_, refl}
+use mathlib.Core.Path.{_≡_}
 use lib.ListN.{length, take}
 use denote.Ref.{now}
 use Rattle.lists.proofs.ByteStrings.{count-take}

@@ -1,10 +1,5 @@
 -- `keys::xts_fits` meets its contract: by the laws `eq-eqb`, `ne-eqb`. Assumes nothing.
-use Prim.Native.Nat.{ℕ, _+_, _*_, _≤_, _<_, _-_}
-use native.Mathlib.Omega.{arith}
-use mathlib.Core.Path.{_≡_, refl, sym, ap, ap₂, _∙_}
-use lib.ListN.{length, getD}
-use denote.Ref.{now}
-use borrow.Author.Tests.{eq-eqb, ne-eqb, le-leb, lt-leb, lt-ltb, le-ltb}
+use borrow.Author.Tests.{eq-eqb, ne-eqb}
 use Rattle.ciphers.specs.Entries.{xtsFits}
 use Rattle.ciphers.proofs.keys.xts_fits.Statement.{statement}
 use Rattle.ciphers.proofs.keys.xts_fits.Tie as tie

@@ -1,5 +1,5 @@
 -- `sbox::inv_s_box` meets its contract: what its calls ensure, put together by congruence. Assumes nothing.
-use Rattle.field.specs.SBox.{invSBox, invSBoxTable}
+use Rattle.field.specs.SBox.{invSBox}
 use borrow.Author.Needs.{needs}
 use Rattle.field.proofs.sbox.inv_s_box.Statement.{statement}
 use Rattle.field.proofs.sbox.inv_s_box.Tie as tie

@@ -1,5 +1,5 @@
 -- `sbox::s_box` meets its contract: what its calls ensure, put together by congruence. Assumes nothing.
-use Rattle.field.specs.SBox.{sBox, sBoxTable}
+use Rattle.field.specs.SBox.{sBox}
 use borrow.Author.Needs.{needs}
 use Rattle.field.proofs.sbox.s_box.Statement.{statement}
 use Rattle.field.proofs.sbox.s_box.Tie as tie

@@ -1,9 +1,5 @@
 -- `cts::encrypt` meets its contract: by the laws `encrypted-long`, `encrypted-one`, from what its calls ensure. Assumes nothing.
-use Prim.Native.Nat.{ℕ, _+_, _*_, _≤_, _<_, _-_}
-use native.Mathlib.Omega.{arith}
-use mathlib.Core.Path.{_≡_, refl, sym, ap, ap₂, _∙_}
-use lib.ListN.{length, getD}
-use denote.Ref.{now}
+use mathlib.Core.Path.{sym, _∙_}
 use Rattle.modes.proofs.CtsSteal.{encrypted-long, encrypted-one}
 use borrow.Author.Needs.{needs}
 use Rattle.modes.proofs.cts.encrypt.Statement.{statement}

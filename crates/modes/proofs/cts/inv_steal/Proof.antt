@@ -1,10 +1,9 @@
 -- `cts::inv_steal` meets its contract: by the invariant of its loop and `unsteal-by`. Assumes nothing.
 use borrow.Author.Needs.{needs}
-use Prim.Native.Nat.{ℕ, _+_, _*_, _≤_, _<_, _-_}
+use Prim.Native.Nat.{_≤_, _-_}
 use native.Mathlib.Omega.{arith}
-use mathlib.Core.Path.{_≡_, refl, sym, ap, ap₂, _∙_}
-use lib.ListN.{length, getD}
-use denote.Ref.{now}
+use mathlib.Core.Path.{_≡_, refl}
+use lib.ListN.{length}
 use Rattle.modes.specs.Cts.{cbcInvStep, cbcInvNext}
 use Rattle.modes.proofs.BlockLoop.{Going, going-start, going-turn}
 use Rattle.modes.proofs.CtsSteal.{unsteal-by}

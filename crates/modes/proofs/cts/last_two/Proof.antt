@@ -1,9 +1,5 @@
 -- `cts::last_two` meets its contract: by the law `tail-by`, from what its calls ensure. Assumes nothing.
-use Prim.Native.Nat.{ℕ, _+_, _*_, _≤_, _<_, _-_}
 use native.Mathlib.Omega.{arith}
-use mathlib.Core.Path.{_≡_, refl, sym, ap, ap₂, _∙_}
-use lib.ListN.{length, getD}
-use denote.Ref.{now}
 use Rattle.modes.proofs.CtsSteal.{tail-by}
 use borrow.Author.Needs.{needs}
 use Rattle.modes.proofs.cts.last_two.Statement.{statement}

@@ -1,12 +1,11 @@
 -- `cts::steal` meets its contract: by the invariant of its loop and `steal-by`. Assumes nothing.
-use denote.Ref.{now}
 use Rattle.modes.specs.Cts.{cbcStep, cbcNext}
 use Rattle.modes.proofs.BlockLoop.{Going, going-start, going-turn}
 use Rattle.modes.proofs.CtsSteal.{steal-by}
-use Prim.Native.Nat.{ℕ, _+_, _*_, _≤_, _<_, _-_}
+use Prim.Native.Nat.{_≤_, _-_}
 use native.Mathlib.Omega.{arith}
-use mathlib.Core.Path.{_≡_, refl, sym, ap, ap₂, _∙_}
-use lib.ListN.{length, getD}
+use mathlib.Core.Path.{_≡_, refl}
+use lib.ListN.{length}
 use borrow.Author.Needs.{needs}
 use Rattle.modes.proofs.cts.steal.Statement.{statement}
 use Rattle.modes.proofs.cts.steal.Tie as tie

@@ -1,7 +1,7 @@
 -- `ecb::encrypt` meets its contract: by the invariant of its loop and `going-end`, `ecb-walked`. Assumes nothing.
-use Prim.Native.Nat.{ℕ, _+_, _*_, _-_, _≤_, _<_}
+use Prim.Native.Nat.{_*_, _-_, _≤_}
 use native.Mathlib.Omega.{arith}
-use mathlib.Core.Path.{_≡_, refl, sym, _∙_, ap}
+use mathlib.Core.Path.{_≡_, refl, sym, _∙_}
 use lib.ListN.{length}
 use Rattle.modes.specs.Xts.{numberBlock}
 use Rattle.modes.proofs.EcbBlocks.{ecbStep, ecbNext, ecb-walked}

@@ -1,11 +1,8 @@
 -- `xts::decrypt` meets its contract: by the invariant of its loop and `going-end`. Assumes nothing.
-use Prim.Native.Nat.{ℕ, _+_, _*_, _≤_, _<_, _-_}
+use Prim.Native.Nat.{_≤_, _-_}
 use native.Mathlib.Omega.{arith}
-use mathlib.Core.Path.{_≡_, refl, sym, ap, ap₂, _∙_}
-use lib.ListN.{length, getD, drop}
-use mathlib.Core.List.{_++_}
-use denote.Ref.{now}
-use Rattle.modes.specs.Walk.{walked, carried}
+use mathlib.Core.Path.{_≡_}
+use lib.ListN.{length}
 use Rattle.modes.specs.Xts.{blockDec, nextTweak, xtsAesDec}
 use Rattle.modes.proofs.BlockLoop.{Going, going-start, going-turn, going-end}
 use borrow.Author.Needs.{needs}
