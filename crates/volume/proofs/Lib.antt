@@ -20,7 +20,7 @@ mod SoundRemove
 pub mod Soundness
 mod Unsound
 pub mod PolicyClause
-pub mod Bytewise
+mod Bytewise
 mod ContextsStay
 pub mod SealedOpens
 pub mod ShownApart

@@ -1,5 +1,5 @@
 -- Every reachable volume is sound: the fresh one is, every request keeps a sound volume sound, and so is every volume of every run. `Sound` and the invariant
--- follow from one another. On a sound volume the climb's budget is never met. Assumes nothing.
+-- follow from one another. On a sound volume the climb's budget is never met. That its bytes are bytes is proofs/Bytewise.antt's, passed on here. Assumes nothing.
 use Prim.Native.Nat.{ℕ, zero, suc, _-_, _≤_}
 use native.Mathlib.Omega.{arith}
 use mathlib.Core.Path.{_≡_, refl, sym, _∙_, ap, subst}
@@ -25,6 +25,7 @@ use Rattle.volume.specs.declared.Entry.{Entry}
 use Rattle.volume.specs.declared.Volume.{Volume}
 use Rattle.volume.specs.declared.Met.the-variants.{Root, Neither}
 use Rattle.volume.proofs.Kept.{volume-has, kept-always}
+pub use Rattle.volume.proofs.Bytewise.{fresh-bytes, bytewise}
 use Rattle.volume.proofs.SoundCore.{Core, KeyOk, no-key-ok, InodeOk, plain-ok, no-inode-ok}
 use Rattle.volume.proofs.SoundClimb.{num, Any, Up, isRoot, hasEnded, in-range, up-short, climb-root, climb-ends, climb-up}
 use Rattle.volume.proofs.SoundInvariant.{Inv, one≢zero, not-eqb}

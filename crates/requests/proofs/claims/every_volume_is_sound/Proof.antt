@@ -1,8 +1,7 @@
 -- `every_volume_is_sound`: the theorems `sound` and `bytewise` of volume, for fscrypt's ciphers, which are lawful. Assumes nothing.
 use Rattle.fscrypt.specs.Cipher.{fscrypt}
 use Rattle.fscrypt.proofs.Lawfulness.{fscrypt-lawful}
-use Rattle.volume.proofs.Bytewise.{fresh-bytes, bytewise}
-use Rattle.volume.proofs.Soundness.{fresh-sound, sound}
+use Rattle.volume.proofs.Soundness.{fresh-sound, sound, fresh-bytes, bytewise}
 use Rattle.requests.proofs.claims.every_volume_is_sound.Statement.{statement}
 use Rattle.requests.proofs.claims.every_volume_is_sound.Tie as tie
 
