@@ -4,12 +4,12 @@ mod Example
 mod Occasions
 -- one request, and lists of requests
 mod Kept
--- every reachable volume is sound
 mod SoundPolicy
+pub mod Passed
+-- every reachable volume is sound
 mod SoundCore
 mod SoundClimb
 mod SoundInvariant
-pub mod Passed
 mod SoundKeys
 mod SoundSetPolicy
 mod SoundLink

@@ -6,7 +6,7 @@ use mathlib.Core.Path.{_≡_, refl, sym, _∙_}
 use mathlib.Core.Logic.{_≢_, _↔_}
 use mathlib.Core.Bool.{Bool, true, false, not, true≢false}
 use lib.Dec.{eqb, ltb}
-use borrow.Author.Tests.{ltb-false, leb-false}
+use borrow.Author.Tests.{eqb-false, ltb-false, leb-false}
 use Rattle.lists.specs.Bytes.{Bytes}
 use Rattle.lists.proofs.Tests.{not-false, if-true, if-false, and-known, or-left, or-right, eqb-true}
 use Rattle.errno.specs.Refusals.{_⇒_, _>>_}
@@ -27,7 +27,6 @@ use Rattle.volume.specs.declared.EntryNumber.{EntryNumber}
 use Rattle.volume.specs.declared.Inode.{Inode}
 use Rattle.volume.specs.declared.Volume.{Volume}
 use Rattle.volume.proofs.SoundPolicy.{may-hold}
-use Rattle.volume.proofs.SoundInvariant.{not-eqb}
 
 -- ---- a table was passed where each of its lines was
 
@@ -92,12 +91,12 @@ unfolding setPolicyCheck
 set-policy-passed v i p x h =
     let (inode, (policy, last)) = simp (line, test) at h in
     record {
-      inode = not-eqb inode;
+      inode = eqb-false _ _ inode;
       policy = policy;
       same = λ bears. not-false ((simp (line, test) at (sym (if-true _ _ bears) ∙ last)) .0);
       first = λ plain.
           let (root, (dir, (empty, nonce))) = simp (line, test) at (sym (if-false _ _ plain) ∙ last) in
-          record { not-root = not-eqb root; directory = eqb-true (not-false dir); empty = empty; nonce = nonce-passed v x nonce };
+          record { not-root = eqb-false _ _ root; directory = eqb-true (not-false dir); empty = empty; nonce = nonce-passed v x nonce };
     }
 
 -- ---- entries
@@ -150,7 +149,7 @@ pub block-passed : (v : Volume) (i : InodeNumber) (n : ℕ) → blockCheck v i n
 unfolding blockCheck
 block-passed v i n h =
     let (size, (inode, (regular, (context, (key, end))))) = simp (line, test) at h in
-    record { size = eqb-true (not-false size); inode = not-eqb inode; regular = eqb-true (not-false regular); has-context = not-false context; key = key }
+    record { size = eqb-true (not-false size); inode = eqb-false _ _ inode; regular = eqb-true (not-false regular); has-context = not-false context; key = key }
 
 -- ---- names
 
@@ -171,7 +170,7 @@ module _ (C : Cipher) (v : Volume) where
       let (name, (kind, (dir, (key, (free, (nonce, (inode, (entry, end)))))))) = simp (line, test) at h in
       record {
         name = name;
-        kind = (not-eqb (or-left (eqb k 0) (ltb 4 k) kind), ltb-false 4 k (or-right (eqb k 0) (ltb 4 k) kind));
+        kind = (eqb-false _ _ (or-left (eqb k 0) (ltb 4 k) kind), ltb-false 4 k (or-right (eqb k 0) (ltb 4 k) kind));
         directory = is-directory v p dir;
         key = key;
         free-name = free;
@@ -196,9 +195,9 @@ module _ (C : Cipher) (v : Volume) where
       let (name, (inode, (dir, (other, (key, (policy, (free, (entry, end)))))))) = simp (line, test) at h in
       record {
         name = name;
-        inode = not-eqb inode;
+        inode = eqb-false _ _ inode;
         directory = is-directory v p dir;
-        not-directory = not-eqb other;
+        not-directory = eqb-false _ _ other;
         key = key;
         policy = may-hold _ _ policy;
         free-name = free;

@@ -9,9 +9,9 @@ use mathlib.Core.List.{List}
 use lib.ListN.{length, getD, set}
 use lib.Seq.{getD-set-other}
 use lib.Dec.{eqb, leb}
-use borrow.Author.Tests.{leb-true, le-leb}
+use borrow.Author.Tests.{eqb-false, leb-true, le-leb}
 use Rattle.lists.specs.Bytes.{Bytes, same}
-use Rattle.lists.proofs.Tests.{and-left, and-right, and-known, eqb-self, same-of-eq}
+use Rattle.lists.proofs.Tests.{and-left, and-right, and-known, same-of-eq}
 use Rattle.lists.proofs.Slots.{by-test, by-cond, within, search-none}
 use Rattle.errno.specs.declared.Checked.the-variants.{Fine}
 use Rattle.policy.proofs.Codec.{samePolicy-refl}
@@ -46,9 +46,6 @@ pub record Inv (v : Volume) : Type 0 where
 
 pub one≢zero : {n : ℕ} → n ≡ 1 → n ≢ 0
 one≢zero p q = absurd (omega arith)
-
-pub not-eqb : {m n : ℕ} → eqb m n ≡ false → m ≢ n
-not-eqb {m} {n} h q = false≢true (sym h ∙ ap (λ (k : ℕ). eqb k n) q ∙ eqb-self n)
 
 pub used-range : (es : List Entry) (e : ℕ) → InUse (getD es e noEntry) → e < length es
 used-range es e u = within es noEntry e (λ q. true≢false (sym (ap isVacant q) ∙ u))
@@ -108,7 +105,7 @@ name-ok C law v dir n h =
     let flags = dir .context .policy .flags in
     let p = plain-name n h in
     let short : length n ≤ 255 = p .not-long in
-    let nz : length n ≢ 0 = not-eqb (p .some-bytes) in
+    let nz : length n ≢ 0 = eqb-false _ _ (p .some-bytes) in
     let some : 0 < length n = omega arith in
     let f = pad-fits flags (length n) short in
     let len : length (C .encryptName (nameKey C v dir) (padded flags n)) ≡ paddedLength flags (length n) =

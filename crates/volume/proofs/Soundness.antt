@@ -7,7 +7,7 @@ use mathlib.Core.Logic.{_≢_}
 use mathlib.Core.Bool.{true, false, true≢false, false≢true}
 use mathlib.Core.List.{List, _++_, List·Memᴰ}
 use lib.ListN.{length}
-use borrow.Author.Tests.{eq-eqb}
+use borrow.Author.Tests.{eq-eqb, eqb-false}
 use Rattle.lists.specs.Bytes.{zeros}
 use Rattle.lists.proofs.Tests.{eqb-true, eqb-other}
 use Rattle.lists.proofs.Slots.{by-eq, by-test, all-same}
@@ -28,7 +28,7 @@ use Rattle.volume.proofs.Kept.{volume-has, kept-always}
 pub use Rattle.volume.proofs.Bytewise.{fresh-bytes, bytewise}
 use Rattle.volume.proofs.SoundCore.{Core, KeyOk, no-key-ok, InodeOk, plain-ok, no-inode-ok}
 use Rattle.volume.proofs.SoundClimb.{num, Any, Up, isRoot, hasEnded, in-range, up-short, climb-root, climb-ends, climb-up}
-use Rattle.volume.proofs.SoundInvariant.{Inv, one≢zero, not-eqb}
+use Rattle.volume.proofs.SoundInvariant.{Inv, one≢zero}
 use Rattle.volume.proofs.SoundKeys.{addKey-keeps, removeKey-keeps}
 use Rattle.volume.proofs.SoundSetPolicy.{setPolicy-keeps}
 use Rattle.volume.proofs.SoundLink.{link-keeps}
@@ -72,7 +72,7 @@ module _ (v : Volume) (ok : Inv v) where
         name-sizes = λ e. sized e .0;
         name-lengths = λ e u. (c .joined .entries-ok e u .name .some, c .joined .entries-ok e u .name .fits);
         root-unheld = λ e u. c .joined .entries-ok e u .not-root;
-        has-entry = λ i nz f. ok .held i nz (not-eqb f);
+        has-entry = λ i nz f. ok .held i nz (eqb-false _ _ f);
         one-entry = λ a b ua ub q k. c .joined .nodes a b (ua, ub, ap (λ (n : InodeNumber). n .0) q, k);
         reachable = λ i k.
             let r = ok .tree i k in
@@ -133,7 +133,7 @@ module _ (v : Volume) (s : Sound v) where
           let x = slotAt v e in
           record {
             directory = s .parents e u;
-            holds = not-eqb (s .inodes-in-use e u);
+            holds = eqb-false _ _ (s .inodes-in-use e u);
             not-root = s .root-unheld e u;
             policy = s .policies e u;
             name = record { some = s .name-lengths e u .0; fits = s .name-lengths e u .1; plain = s .plain-names e u; sealed = s .encrypted-lengths e u };
