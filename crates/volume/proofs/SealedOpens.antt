@@ -24,7 +24,7 @@ use Rattle.fscrypt.specs.Encoded.{encoded}
 use Rattle.fscrypt.specs.declared.NameRead.{NameRead}
 use Rattle.fscrypt.proofs.Padding.{read-stored, nameBytes-packed}
 use Rattle.volume.specs.Volume.{noInode, noEntry, keyBytes, nameOf, entrySlot}
-use Rattle.volume.specs.Request.{Request, create, link, rename, show, seal, unseal, refused, done, created, at, shown, Outcome, outcome, Typed}
+use Rattle.volume.specs.Request.{Request, create, link, rename, show, seal, unseal, Answer, refused, done, created, at, shown, Outcome, outcome, Typed}
 use Rattle.volume.specs.Lookup.{keySlotOf, keyOf, keyPresent, lacksKey, inodeAt, freeInode, entryAt, isVacant, freeEntry}
 use Rattle.volume.specs.DirectoryNames.{derivedKey, nameKey, stored, readName, shownName, isUnreadable, formIn}
 use Rattle.volume.specs.Checks.{blockCheck, showCheck}
@@ -41,7 +41,7 @@ use Rattle.volume.specs.declared.Volume.{Volume}
 use Rattle.volume.specs.declared.ShownEntry.{ShownEntry}
 use Rattle.volume.specs.declared.Form.{Form}
 use Rattle.volume.specs.declared.Form.the-variants.{Plain, Decrypted, Encoded}
-use Rattle.volume.proofs.Kept.{done-by, was-fine, was-done}
+use Rattle.volume.proofs.Kept.{step-has, done-by, was-fine, was-done}
 use Rattle.volume.proofs.SoundCore.{slot-name}
 use Rattle.volume.proofs.SoundClimb.{num}
 use Rattle.volume.proofs.SoundInvariant.{one≢zero, used-range, name-ok}
@@ -207,51 +207,53 @@ module _ (C : Cipher) (law : Lawful C) where
         (ap (λ (x : Entry). getD is (x .parent .0) noInode) slot ∙ dir)
         (ap nameOf slot ∙ slot-name p i s ∙ sym (stored-same (inodeAt v p) n))
 
+  -- what is claimed of a request that answered a, where it stored the name n in the entry e
+  abbrev Showing : EntryNumber → Bytes → Answer → Outcome → Type 0
+  Showing e n a o = Bytewise (o .volume) → o .answer ≡ a → ShowsAs C (o .volume) e n
+
   created-shows : (v : Volume) → Bytewise v → Sound v → (p : InodeNumber) (kind : ℕ) (n x : Bytes) → Typed (create p kind n x) → (i : InodeNumber) (e : EntryNumber)
       → (step C v (create p kind n x)) .answer ≡ created i e → ShowsAs C ((step C v (create p kind n x)) .volume) e n
   unfolding check effect
-  created-shows v w s p kind n x t i e h =
+  created-shows v w s p kind n x t i e =
       let r : Request = create p kind n x in
-      let na : (m : ℕ) → refused m ≢ created i e = λ m q. let z : _≡_ {A = ℕ} 0 1 = cc in absurd (omega arith) in
-      let eff : step C v r ≡ effect C v r = was-done C v r (created i e) na h in
-      let c = create-passed C v p kind n x (was-fine C v r (created i e) na h) in
+      step-has C v r (Showing e n (created i e)) (λ f u a. let z : _≡_ {A = ℕ} 0 1 = cc in absurd (omega arith))
+      (λ h u a.
+      let c = create-passed C v p kind n x h in
       let new = entrySlot p (num (freeInode v)) (stored C v (inodeAt v p) n) in
-      let q : _≡_ {A = EntryNumber} (record { 0 = freeEntry v }) e = cc (ap (λ (o : Outcome). o .answer) (sym eff) ∙ h) in
-      let w′ = subst (λ (o : Outcome). Bytewise (o .volume)) eff (bytewise-kept C law v w r t) in
-      subst (λ (o : Outcome). ShowsAs C (o .volume) e n) (sym eff)
-      (subst (λ (f : EntryNumber). ShowsAs C ((effect C v r) .volume) f n) q
-      (shows-new v _ _ w′ (record { 0 = freeEntry v }) p (num (freeInode v)) n (t .0) (c .name) (c .key)
+      let q : _≡_ {A = EntryNumber} (record { 0 = freeEntry v }) e = cc in
+      subst (λ (f : EntryNumber). ShowsAs C ((effect C v r) .volume) f n) q
+      (shows-new v _ _ u (record { 0 = freeEntry v }) p (num (freeInode v)) n (t .0) (c .name) (c .key)
       (free-kept v (childOf (inodeAt v p) kind x) (p .0) (one≢zero (c .directory)))
       (getD-set-same (v .entries) (freeEntry v) new noEntry (omega (arith, c .entry-room, s .entry-slots)))))
+      (bytewise-kept C law v w r t)
 
   linked-shows : (v : Volume) → Bytewise v → Sound v → (i p : InodeNumber) (n : Bytes) → Typed (link i p n) → (e : EntryNumber)
       → (step C v (link i p n)) .answer ≡ at e → ShowsAs C ((step C v (link i p n)) .volume) e n
   unfolding check effect
-  linked-shows v w s i p n t e h =
+  linked-shows v w s i p n t e =
       let r : Request = link i p n in
-      let na : (m : ℕ) → refused m ≢ at e = λ m q. let z : _≡_ {A = ℕ} 0 1 = cc in absurd (omega arith) in
-      let eff : step C v r ≡ effect C v r = was-done C v r (at e) na h in
-      let c = link-passed C v i p n (was-fine C v r (at e) na h) in
+      step-has C v r (Showing e n (at e)) (λ f u a. let z : _≡_ {A = ℕ} 0 1 = cc in absurd (omega arith))
+      (λ h u a.
+      let c = link-passed C v i p n h in
       let new = entrySlot p i (stored C v (inodeAt v p) n) in
-      let q : _≡_ {A = EntryNumber} (record { 0 = freeEntry v }) e = cc (ap (λ (o : Outcome). o .answer) (sym eff) ∙ h) in
-      let w′ = subst (λ (o : Outcome). Bytewise (o .volume)) eff (bytewise-kept C law v w r t) in
-      subst (λ (o : Outcome). ShowsAs C (o .volume) e n) (sym eff)
-      (subst (λ (f : EntryNumber). ShowsAs C ((effect C v r) .volume) f n) q
-      (shows-new v _ _ w′ (record { 0 = freeEntry v }) p i n t (c .name) (c .key) refl (getD-set-same (v .entries) (freeEntry v) new noEntry (omega (arith, c .entry-room, s .entry-slots)))))
+      let q : _≡_ {A = EntryNumber} (record { 0 = freeEntry v }) e = cc in
+      subst (λ (f : EntryNumber). ShowsAs C ((effect C v r) .volume) f n) q
+      (shows-new v _ _ u (record { 0 = freeEntry v }) p i n t (c .name) (c .key) refl
+      (getD-set-same (v .entries) (freeEntry v) new noEntry (omega (arith, c .entry-room, s .entry-slots)))))
+      (bytewise-kept C law v w r t)
 
   renamed-shows : (v : Volume) → Bytewise v → (e : EntryNumber) (p : InodeNumber) (n : Bytes) → Typed (rename e p n) → (step C v (rename e p n)) .answer ≡ done
       → ShowsAs C ((step C v (rename e p n)) .volume) e n
   unfolding check effect
-  renamed-shows v w e p n t h =
+  renamed-shows v w e p n t =
       let r : Request = rename e p n in
-      let na : (m : ℕ) → refused m ≢ done = λ m q. let z : _≡_ {A = ℕ} 0 1 = cc in absurd (omega arith) in
-      let eff : step C v r ≡ effect C v r = was-done C v r done na h in
-      let c = rename-passed C v e p n (was-fine C v r done na h) in
+      step-has C v r (Showing e n done) (λ f u a. let z : _≡_ {A = ℕ} 0 1 = cc in absurd (omega arith))
+      (λ h u a.
+      let c = rename-passed C v e p n h in
       let new = entrySlot p (entryAt v e .inode) (stored C v (inodeAt v p) n) in
-      let w′ = subst (λ (o : Outcome). Bytewise (o .volume)) eff (bytewise-kept C law v w r t) in
-      subst (λ (o : Outcome). ShowsAs C (o .volume) e n) (sym eff)
-      (shows-new v _ _ w′ e p (entryAt v e .inode) n t (c .name) (c .key) refl
+      shows-new v _ _ u e p (entryAt v e .inode) n t (c .name) (c .key) refl
       (getD-set-same (v .entries) (e .0) new noEntry (used-range (v .entries) (e .0) (c .entry))))
+      (bytewise-kept C law v w r t)
 
 -- ---- names: on a later volume
 
