@@ -1,6 +1,5 @@
 -- `main` counts to 50,000 pairs of requests: the invariant is that it has not passed it. Assumes nothing.
 use Prim.Native.Nat.{_≤_, _-_}
-use native.Mathlib.Omega.{arith}
 use borrow.Author.Needs.{needs}
 use Rattle.mixed.proofs.main.Statement.{statement}
 use Rattle.mixed.proofs.main.Tie as tie

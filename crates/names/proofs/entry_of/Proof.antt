@@ -2,7 +2,7 @@
 use Rattle.names.proofs.Reading.{entry-by}
 use Rattle.fscrypt.specs.Cipher.{fscrypt}
 use Rattle.volume.specs.Lookup.{lacksKey}
-use mathlib.Core.Path.{_≡_, ap, _∙_}
+use mathlib.Core.Path.{ap, _∙_}
 use borrow.Author.Needs.{needs}
 use Rattle.names.proofs.entry_of.Statement.{statement}
 use Rattle.names.proofs.entry_of.Tie as tie

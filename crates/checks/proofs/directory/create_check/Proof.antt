@@ -1,7 +1,7 @@
 -- `create_check` is `createCheck`: line by line of its table, the end of which is `roomCheck`. Assumes nothing.
 use Rattle.volume.specs.Checks.{createCheck}
 use Rattle.checks.proofs.Lines.{calls, fits}
-use mathlib.Core.Path.{_≡_, sym, _∙_}
+use mathlib.Core.Path.{sym, _∙_}
 use borrow.Author.Needs.{needs}
 use Rattle.checks.proofs.directory.create_check.Statement.{statement}
 use Rattle.checks.proofs.directory.create_check.Tie as tie

@@ -1,6 +1,6 @@
 -- `move_check` is `moveCheck`: line by line of its table. Assumes nothing.
 use Rattle.checks.proofs.Lines.{calls}
-use mathlib.Core.Path.{_≡_, sym, _∙_}
+use mathlib.Core.Path.{sym, _∙_}
 use borrow.Author.Needs.{needs}
 use Rattle.checks.proofs.directory.move_check.Statement.{statement}
 use Rattle.checks.proofs.directory.move_check.Tie as tie

@@ -1,7 +1,6 @@
 -- `is_nonce_needed` is `isNonceNeeded`: a conjunction, returned early. Assumes nothing.
 use Rattle.volume.specs.Checks.{isNonceNeeded}
 use Rattle.lists.proofs.Predicates.{predicates}
-use borrow.Author.Needs.{needs}
 use Rattle.lookup.proofs.inodes.is_nonce_needed.Statement.{statement}
 use Rattle.lookup.proofs.inodes.is_nonce_needed.Tie as tie
 
