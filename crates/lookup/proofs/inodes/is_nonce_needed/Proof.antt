@@ -1,4 +1,5 @@
 -- `is_nonce_needed` is `isNonceNeeded`: a conjunction, returned early. Assumes nothing.
+use borrow.Author.Needs.{needs}
 use Rattle.volume.specs.Checks.{isNonceNeeded}
 use Rattle.lists.proofs.Predicates.{predicates}
 use Rattle.lookup.proofs.inodes.is_nonce_needed.Statement.{statement}
