@@ -8,14 +8,8 @@ use Rattle.ciphers.proofs.Fits.{cts-sizes, answered, refused}
 use Rattle.ciphers.proofs.cts_decrypt.Statement.{statement}
 use Rattle.ciphers.proofs.cts_decrypt.Tie as tie
 
-cts-fits-requires : tie.Need-cts-fits-requires
-cts-fits-requires c κs = search needs
-
 cts-decrypt-requires : tie.Need-cts-decrypt-requires
 cts-decrypt-requires c κs = cts-sizes (length (now (c .before .before .before .before .before .args .key))) (length (now (c .before .before .before .before .before .args .text))) (sym (c .before .before .cts-fits .ensures) ∙ c .before .if1 .taken)
-
-same-length : tie.Need-same-length
-same-length c = search needs
 
 returns : tie.Need-returns
 unfolding ctsDecrypt
@@ -26,4 +20,11 @@ unfolding ctsDecrypt
 returns-2 c = refused (ctsFits (length (now (c .before .before .before .before .args .key))) (length (now (c .before .before .before .before .args .text)))) _ _ (sym (c .before .cts-fits .ensures) ∙ c .if1 .left)
 
 pub cts-decrypt-spec : {M : Type 1} → statement M
-cts-decrypt-spec = tie.close (tie.spec cts-fits-requires cts-decrypt-requires same-length returns returns-2)
+cts-decrypt-spec =
+    tie.close
+    (tie.spec
+    (λ c κs. search needs)
+    cts-decrypt-requires
+    (λ c. search needs)
+    returns
+    returns-2)

@@ -8,14 +8,8 @@ use Rattle.ciphers.proofs.Fits.{cts-sizes, answered, refused}
 use Rattle.ciphers.proofs.cts_encrypt.Statement.{statement}
 use Rattle.ciphers.proofs.cts_encrypt.Tie as tie
 
-cts-fits-requires : tie.Need-cts-fits-requires
-cts-fits-requires c κs = search needs
-
 cts-encrypt-requires : tie.Need-cts-encrypt-requires
 cts-encrypt-requires c κs = cts-sizes (length (now (c .before .before .before .before .before .args .key))) (length (now (c .before .before .before .before .before .args .text))) (sym (c .before .before .cts-fits .ensures) ∙ c .before .if1 .taken)
-
-same-length : tie.Need-same-length
-same-length c = search needs
 
 returns : tie.Need-returns
 unfolding ctsEncrypt
@@ -26,4 +20,11 @@ unfolding ctsEncrypt
 returns-2 c = refused (ctsFits (length (now (c .before .before .before .before .args .key))) (length (now (c .before .before .before .before .args .text)))) _ _ (sym (c .before .cts-fits .ensures) ∙ c .if1 .left)
 
 pub cts-encrypt-spec : {M : Type 1} → statement M
-cts-encrypt-spec = tie.close (tie.spec cts-fits-requires cts-encrypt-requires same-length returns returns-2)
+cts-encrypt-spec =
+    tie.close
+    (tie.spec
+    (λ c κs. search needs)
+    cts-encrypt-requires
+    (λ c. search needs)
+    returns
+    returns-2)

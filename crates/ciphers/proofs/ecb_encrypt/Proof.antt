@@ -8,14 +8,8 @@ use Rattle.ciphers.proofs.Fits.{ecb-sizes, answered, refused}
 use Rattle.ciphers.proofs.ecb_encrypt.Statement.{statement}
 use Rattle.ciphers.proofs.ecb_encrypt.Tie as tie
 
-ecb-fits-requires : tie.Need-ecb-fits-requires
-ecb-fits-requires c κs = search needs
-
 ecb-encrypt-requires : tie.Need-ecb-encrypt-requires
 ecb-encrypt-requires c κs = ecb-sizes (length (now (c .before .before .before .before .before .args .key))) (length (now (c .before .before .before .before .before .args .text))) (sym (c .before .before .ecb-fits .ensures) ∙ c .before .if1 .taken)
-
-same-length : tie.Need-same-length
-same-length c = search needs
 
 returns : tie.Need-returns
 unfolding ecbEncrypt
@@ -26,4 +20,11 @@ unfolding ecbEncrypt
 returns-2 c = refused (ecbFits (length (now (c .before .before .before .before .args .key))) (length (now (c .before .before .before .before .args .text)))) _ _ (sym (c .before .ecb-fits .ensures) ∙ c .if1 .left)
 
 pub ecb-encrypt-spec : {M : Type 1} → statement M
-ecb-encrypt-spec = tie.close (tie.spec ecb-fits-requires ecb-encrypt-requires same-length returns returns-2)
+ecb-encrypt-spec =
+    tie.close
+    (tie.spec
+    (λ c κs. search needs)
+    ecb-encrypt-requires
+    (λ c. search needs)
+    returns
+    returns-2)

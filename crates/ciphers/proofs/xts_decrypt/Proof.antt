@@ -8,14 +8,8 @@ use Rattle.ciphers.proofs.Fits.{xts-sizes, answered, refused}
 use Rattle.ciphers.proofs.xts_decrypt.Statement.{statement}
 use Rattle.ciphers.proofs.xts_decrypt.Tie as tie
 
-xts-fits-requires : tie.Need-xts-fits-requires
-xts-fits-requires c κs = search needs
-
 xts-decrypt-requires : tie.Need-xts-decrypt-requires
 xts-decrypt-requires c κs = xts-sizes (length (now (c .before .before .before .before .before .args .key))) (length (now (c .before .before .before .before .before .args .block))) (sym (c .before .before .xts-fits .ensures) ∙ c .before .if1 .taken)
-
-same-length : tie.Need-same-length
-same-length c = search needs
 
 returns : tie.Need-returns
 unfolding xtsDecrypt
@@ -26,4 +20,11 @@ unfolding xtsDecrypt
 returns-2 c = refused (xtsFits (length (now (c .before .before .before .before .args .key))) (length (now (c .before .before .before .before .args .block)))) _ _ (sym (c .before .xts-fits .ensures) ∙ c .if1 .left)
 
 pub xts-decrypt-spec : {M : Type 1} → statement M
-xts-decrypt-spec = tie.close (tie.spec xts-fits-requires xts-decrypt-requires same-length returns returns-2)
+xts-decrypt-spec =
+    tie.close
+    (tie.spec
+    (λ c κs. search needs)
+    xts-decrypt-requires
+    (λ c. search needs)
+    returns
+    returns-2)

@@ -8,14 +8,8 @@ use Rattle.ciphers.proofs.Fits.{xts-sizes, answered, refused}
 use Rattle.ciphers.proofs.xts_encrypt.Statement.{statement}
 use Rattle.ciphers.proofs.xts_encrypt.Tie as tie
 
-xts-fits-requires : tie.Need-xts-fits-requires
-xts-fits-requires c κs = search needs
-
 xts-encrypt-requires : tie.Need-xts-encrypt-requires
 xts-encrypt-requires c κs = xts-sizes (length (now (c .before .before .before .before .before .args .key))) (length (now (c .before .before .before .before .before .args .block))) (sym (c .before .before .xts-fits .ensures) ∙ c .before .if1 .taken)
-
-same-length : tie.Need-same-length
-same-length c = search needs
 
 returns : tie.Need-returns
 unfolding xtsEncrypt
@@ -26,4 +20,11 @@ unfolding xtsEncrypt
 returns-2 c = refused (xtsFits (length (now (c .before .before .before .before .args .key))) (length (now (c .before .before .before .before .args .block)))) _ _ (sym (c .before .xts-fits .ensures) ∙ c .if1 .left)
 
 pub xts-encrypt-spec : {M : Type 1} → statement M
-xts-encrypt-spec = tie.close (tie.spec xts-fits-requires xts-encrypt-requires same-length returns returns-2)
+xts-encrypt-spec =
+    tie.close
+    (tie.spec
+    (λ c κs. search needs)
+    xts-encrypt-requires
+    (λ c. search needs)
+    returns
+    returns-2)

@@ -7,18 +7,6 @@ use Rattle.policy.proofs.Writing.{context-put}
 use Rattle.policy.proofs.context_bytes.Statement.{statement}
 use Rattle.policy.proofs.context_bytes.Tie as tie
 
-slice-aggregate-put-fields : tie.Need-slice-aggregate-put-fields
-slice-aggregate-put-fields c = search needs
-
-put-fields-requires : tie.Need-put-fields-requires
-put-fields-requires c κs = search needs
-
-slice-aggregate-copy-to : tie.Need-slice-aggregate-copy-to
-slice-aggregate-copy-to c = search needs
-
-slice-aggregate-copy-to-2 : tie.Need-slice-aggregate-copy-to-2
-slice-aggregate-copy-to-2 c = search needs
-
 copy-to-requires : tie.Need-copy-to-requires
 copy-to-requires c κs = let n : length (c .before .before .before .before .before .before .before .args .c .nonce) ≡ 16 = search needs in omega arith
 
@@ -31,9 +19,9 @@ pub context-bytes-spec : {M : Type 1} → statement M
 context-bytes-spec =
     tie.close
     (tie.spec
-    slice-aggregate-put-fields
-    put-fields-requires
-    slice-aggregate-copy-to
-    slice-aggregate-copy-to-2
+    (λ c. search needs)
+    (λ c κs. search needs)
+    (λ c. search needs)
+    (λ c. search needs)
     copy-to-requires
     returns)

@@ -11,9 +11,6 @@ returns : tie.Need-returns
 unfolding isValid
 returns c = search predicates depth 12
 
-is-pair-requires : tie.Need-is-pair-requires
-is-pair-requires c κs = search needs
-
 returns-2 : tie.Need-returns-2
 unfolding isValid
 returns-2 c = and-go _ _ _ (eq-eqb _ _ (c .before .before .if1 .left)) (and-stop _ _ (sym (c .before .is-pair .ensures) ∙ not-true _ (c .if2 .taken)))
@@ -23,4 +20,4 @@ unfolding isValid
 returns-3 c = and-go _ _ _ (eq-eqb _ _ (c .before .before .before .if1 .left)) (and-go _ _ _ (sym (c .before .before .is-pair .ensures) ∙ not-false _ (c .before .if2 .left)) refl)
 
 pub is-valid-spec : {M : Type 1} → statement M
-is-valid-spec = tie.close (tie.spec returns is-pair-requires returns-2 returns-3)
+is-valid-spec = tie.close (tie.spec returns (λ c κs. search needs) returns-2 returns-3)

@@ -4,23 +4,8 @@ use borrow.Author.Needs.{needs}
 use Rattle.policy.proofs.read_policy.Statement.{statement}
 use Rattle.policy.proofs.read_policy.Tie as tie
 
-refused-policy-requires : tie.Need-refused-policy-requires
-refused-policy-requires c κs = search needs
-
 returns : tie.Need-returns
 returns c = policy-length-refused _ _ (c .refused-policy .ensures) (c .before .if1 .taken)
-
-shared-slice-read-policy-at : tie.Need-shared-slice-read-policy-at
-shared-slice-read-policy-at c = search needs
-
-policy-at-requires : tie.Need-policy-at-requires
-policy-at-requires c κs = search needs
-
-is-valid-requires : tie.Need-is-valid-requires
-is-valid-requires c κs = search needs
-
-refused-policy-requires-2 : tie.Need-refused-policy-requires-2
-refused-policy-requires-2 c κs = search needs
 
 returns-2 : tie.Need-returns-2
 returns-2 c =
@@ -34,11 +19,11 @@ pub read-policy-spec : {M : Type 1} → statement M
 read-policy-spec =
     tie.close
     (tie.spec
-    refused-policy-requires
+    (λ c κs. search needs)
     returns
-    shared-slice-read-policy-at
-    policy-at-requires
-    is-valid-requires
-    refused-policy-requires-2
+    (λ c. search needs)
+    (λ c κs. search needs)
+    (λ c κs. search needs)
+    (λ c κs. search needs)
     returns-2
     returns-3)

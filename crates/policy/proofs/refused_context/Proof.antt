@@ -3,11 +3,8 @@ use borrow.Author.Needs.{needs}
 use Rattle.policy.proofs.refused_context.Statement.{statement}
 use Rattle.policy.proofs.refused_context.Tie as tie
 
-no-context-requires : tie.Need-no-context-requires
-no-context-requires c κs = search needs
-
 returns : tie.Need-returns
 returns c = cc
 
 pub refused-context-spec : {M : Type 1} → statement M
-refused-context-spec = tie.close (tie.spec no-context-requires returns)
+refused-context-spec = tie.close (tie.spec (λ c κs. search needs) returns)

@@ -3,11 +3,8 @@ use borrow.Author.Needs.{needs}
 use Rattle.policy.proofs.refused_policy.Statement.{statement}
 use Rattle.policy.proofs.refused_policy.Tie as tie
 
-no-policy-requires : tie.Need-no-policy-requires
-no-policy-requires c κs = search needs
-
 returns : tie.Need-returns
 returns c = cc
 
 pub refused-policy-spec : {M : Type 1} → statement M
-refused-policy-spec = tie.close (tie.spec no-policy-requires returns)
+refused-policy-spec = tie.close (tie.spec (λ c κs. search needs) returns)

@@ -34,9 +34,6 @@ slice-aggregate-same-bytes-2 c =
     let s = c .before .before .before .before .before .before .before .before .before .before .before .before .before .before .before .before in
     sym (descriptor-length (s .args .b) (s .good .1 .0))
 
-same-bytes-requires : tie.Need-same-bytes-requires
-same-bytes-requires c κs = search needs
-
 returns-5 : tie.Need-returns-5
 unfolding samePolicy
 returns-5 c =
@@ -58,5 +55,5 @@ same-policy-spec =
     returns-4
     slice-aggregate-same-bytes
     slice-aggregate-same-bytes-2
-    same-bytes-requires
+    (λ c κs. search needs)
     returns-5)

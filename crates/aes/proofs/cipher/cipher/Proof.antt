@@ -14,36 +14,12 @@ Inv-loop sbox w nr t₀ i₀ t i = (i ≤ nr - 1) × (t ≡ rounds w i t₀)
 abbrev μ-loop : tie.MeasureT-loop
 μ-loop sbox w nr t₀ i₀ t i = nr - i
 
-load-requires : tie.Need-load-requires Inv-loop μ-loop
-load-requires c κs = search needs
-
-add-round-key-requires : tie.Need-add-round-key-requires Inv-loop μ-loop
-add-round-key-requires c κs = search needs
-
 loop-holds : tie.Need-loop-holds Inv-loop μ-loop
 unfolding rounds
 loop-holds c = (omega arith, refl)
 
-add-loop : tie.Need-add-loop Inv-loop μ-loop
-add-loop c = search needs
-
-add-round : tie.Need-add-round Inv-loop μ-loop
-add-round c = search needs
-
-round-requires : tie.Need-round-requires Inv-loop μ-loop
-round-requires c κs = search needs
-
-add-i : tie.Need-add-i Inv-loop μ-loop
-add-i c = search needs
-
-loop-less : tie.Need-loop-less Inv-loop μ-loop
-loop-less c = search needs
-
 loop-again : tie.Need-loop-again Inv-loop μ-loop
 loop-again c = (omega arith, rw rounds-next (cc))
-
-last-round-requires : tie.Need-last-round-requires Inv-loop μ-loop
-last-round-requires c κs = search needs
 
 returns : tie.Need-returns Inv-loop μ-loop
 unfolding roundKey
@@ -57,14 +33,14 @@ cipher-spec =
     (tie.spec
     Inv-loop
     μ-loop
-    load-requires
-    add-round-key-requires
+    (λ c κs. search needs)
+    (λ c κs. search needs)
     loop-holds
-    add-loop
-    add-round
-    round-requires
-    add-i
-    loop-less
+    (λ c. search needs)
+    (λ c. search needs)
+    (λ c κs. search needs)
+    (λ c. search needs)
+    (λ c. search needs)
     loop-again
-    last-round-requires
+    (λ c κs. search needs)
     returns)

@@ -14,32 +14,11 @@ Inv-loop inv-sbox w nr t₀ i₀ t i = (i ≤ nr) × (invRounds w (i - 1) t ≡ 
 abbrev μ-loop : tie.MeasureT-loop
 μ-loop inv-sbox w nr t₀ i₀ t i = i
 
-mul-load : tie.Need-mul-load Inv-loop μ-loop
-mul-load c = search needs
-
-load-requires : tie.Need-load-requires Inv-loop μ-loop
-load-requires c κs = search needs
-
-add-round-key-requires : tie.Need-add-round-key-requires Inv-loop μ-loop
-add-round-key-requires c κs = search needs
-
 loop-holds : tie.Need-loop-holds Inv-loop μ-loop
 loop-holds c = (omega arith, refl)
 
-sub-i : tie.Need-sub-i Inv-loop μ-loop
-sub-i c = search needs
-
-inv-round-requires : tie.Need-inv-round-requires Inv-loop μ-loop
-inv-round-requires c κs = search needs
-
-loop-less : tie.Need-loop-less Inv-loop μ-loop
-loop-less c = search needs
-
 loop-again : tie.Need-loop-again Inv-loop μ-loop
 loop-again c = (omega arith, invRounds-turn _ _ _ _ _ (omega arith) (c .inv-round .ensures) (c .before .before .loop .inv .1))
-
-inv-last-round-requires : tie.Need-inv-last-round-requires Inv-loop μ-loop
-inv-last-round-requires c κs = search needs
 
 returns : tie.Need-returns Inv-loop μ-loop
 unfolding roundKey
@@ -53,13 +32,13 @@ inv-cipher-spec =
     (tie.spec
     Inv-loop
     μ-loop
-    mul-load
-    load-requires
-    add-round-key-requires
+    (λ c. search needs)
+    (λ c κs. search needs)
+    (λ c κs. search needs)
     loop-holds
-    sub-i
-    inv-round-requires
-    loop-less
+    (λ c. search needs)
+    (λ c κs. search needs)
+    (λ c. search needs)
     loop-again
-    inv-last-round-requires
+    (λ c κs. search needs)
     returns)

@@ -4,24 +4,6 @@ use borrow.Author.Needs.{needs}
 use Rattle.aes.proofs.cipher.round.Statement.{statement}
 use Rattle.aes.proofs.cipher.round.Tie as tie
 
-sub-bytes-requires : tie.Need-sub-bytes-requires
-sub-bytes-requires c κs = search needs
-
-shift-rows-requires : tie.Need-shift-rows-requires
-shift-rows-requires c κs = search needs
-
-mix-columns-requires : tie.Need-mix-columns-requires
-mix-columns-requires c κs = search needs
-
-mul-load : tie.Need-mul-load
-mul-load c = search needs
-
-load-requires : tie.Need-load-requires
-load-requires c κs = search needs
-
-add-round-key-requires : tie.Need-add-round-key-requires
-add-round-key-requires c κs = search needs
-
 returns : tie.Need-returns
 unfolding round roundKey
 returns c = cc
@@ -30,10 +12,10 @@ pub round-spec : {M : Type 1} → statement M
 round-spec =
     tie.close
     (tie.spec
-    sub-bytes-requires
-    shift-rows-requires
-    mix-columns-requires
-    mul-load
-    load-requires
-    add-round-key-requires
+    (λ c κs. search needs)
+    (λ c κs. search needs)
+    (λ c κs. search needs)
+    (λ c. search needs)
+    (λ c κs. search needs)
+    (λ c κs. search needs)
     returns)

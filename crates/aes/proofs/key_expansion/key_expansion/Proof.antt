@@ -16,36 +16,12 @@ Inv-loop sbox key w₀ nk n i₀ w i = (nk ≡ length key / 4) × (n ≡ 4 * (nk
 abbrev μ-loop : tie.MeasureT-loop
 μ-loop sbox key w₀ nk n i₀ w i = n - i
 
-add-n : tie.Need-add-n Inv-loop μ-loop
-add-n c = omega arith
-
-mul-n : tie.Need-mul-n Inv-loop μ-loop
-mul-n c = omega arith
-
 loop-holds : tie.Need-loop-holds Inv-loop μ-loop
 unfolding expanded
 loop-holds c = (refl, refl, omega arith, omega arith, refl)
 
-next-word-requires : tie.Need-next-word-requires Inv-loop μ-loop
-next-word-requires c κs = search needs
-
-mul-store : tie.Need-mul-store Inv-loop μ-loop
-mul-store c = omega arith
-
-store-requires : tie.Need-store-requires Inv-loop μ-loop
-store-requires c κs = omega arith
-
-add-i : tie.Need-add-i Inv-loop μ-loop
-add-i c = omega arith
-
-loop-less : tie.Need-loop-less Inv-loop μ-loop
-loop-less c = omega arith
-
 loop-again : tie.Need-loop-again Inv-loop μ-loop
 loop-again c = (refl, refl, omega arith, omega arith, expand-turn _ _ _ _ _ _ _ (omega arith) (c .before .before .before .before .before .before .before .loop .inv .4) (c .before .before .before .before .next-word .ensures) (c .before .before .store .ensures))
-
-same-length : tie.Need-same-length Inv-loop μ-loop
-same-length c = omega arith
 
 returns : tie.Need-returns Inv-loop μ-loop
 returns c = expand-end _ _ _ _ _ (c .before .loop .inv .0) (c .before .loop .inv .4) (omega arith)
@@ -56,14 +32,14 @@ key-expansion-spec =
     (tie.spec
     Inv-loop
     μ-loop
-    add-n
-    mul-n
+    (λ c. omega arith)
+    (λ c. omega arith)
     loop-holds
-    next-word-requires
-    mul-store
-    store-requires
-    add-i
-    loop-less
+    (λ c κs. search needs)
+    (λ c. omega arith)
+    (λ c κs. omega arith)
+    (λ c. omega arith)
+    (λ c. omega arith)
     loop-again
-    same-length
+    (λ c. omega arith)
     returns)

@@ -4,15 +4,9 @@ use borrow.Author.Needs.{needs}
 use Rattle.aes.proofs.key_expansion.rcon.Statement.{statement}
 use Rattle.aes.proofs.key_expansion.rcon.Tie as tie
 
-sub-x-power : tie.Need-sub-x-power
-sub-x-power c = search needs
-
-x-power-requires : tie.Need-x-power-requires
-x-power-requires c κs = search needs
-
 returns : tie.Need-returns
 unfolding rcon
 returns c = cc
 
 pub rcon-spec : {M : Type 1} → statement M
-rcon-spec = tie.close (tie.spec sub-x-power x-power-requires returns)
+rcon-spec = tie.close (tie.spec (λ c. search needs) (λ c κs. search needs) returns)

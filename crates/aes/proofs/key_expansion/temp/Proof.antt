@@ -5,29 +5,11 @@ use borrow.Author.Needs.{needs}
 use Rattle.aes.proofs.key_expansion.temp.Statement.{statement}
 use Rattle.aes.proofs.key_expansion.temp.Tie as tie
 
-rem-m : tie.Need-rem-m
-rem-m c = search needs
-
-rot-word-requires : tie.Need-rot-word-requires
-rot-word-requires c κs = search needs
-
-sub-word-requires : tie.Need-sub-word-requires
-sub-word-requires c κs = search needs
-
-div-rcon : tie.Need-div-rcon
-div-rcon c = search needs
-
 rcon-requires : tie.Need-rcon-requires
 rcon-requires c κs = rcon-index _ _ (omega arith) (omega arith) (omega arith)
 
-add-word-requires : tie.Need-add-word-requires
-add-word-requires c κs = search needs
-
 returns : tie.Need-returns
 returns c = temp-zero _ _ _ _ _ _ _ (c .before .before .before .before .if1 .taken) (c .before .before .before .rot-word .ensures) (c .before .before .sub-word .ensures) (c .before .rcon .ensures) (c .add-word .ensures)
-
-sub-word-requires-2 : tie.Need-sub-word-requires-2
-sub-word-requires-2 c κs = search needs
 
 returns-2 : tie.Need-returns-2
 returns-2 c = temp-four _ _ _ _ (c .before .before .before .if1 .left) (c .before .before .if2 .taken) (c .before .if3 .taken) (c .sub-word2 .ensures)
@@ -42,14 +24,14 @@ pub temp-spec : {M : Type 1} → statement M
 temp-spec =
     tie.close
     (tie.spec
-    rem-m
-    rot-word-requires
-    sub-word-requires
-    div-rcon
+    (λ c. search needs)
+    (λ c κs. search needs)
+    (λ c κs. search needs)
+    (λ c. search needs)
     rcon-requires
-    add-word-requires
+    (λ c κs. search needs)
     returns
-    sub-word-requires-2
+    (λ c κs. search needs)
     returns-2
     returns-3
     returns-4)

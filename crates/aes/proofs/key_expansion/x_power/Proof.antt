@@ -18,15 +18,6 @@ loop-holds : tie.Need-loop-holds Inv-loop μ-loop
 unfolding xPower
 loop-holds c = (omega arith, refl)
 
-x-times-requires : tie.Need-x-times-requires Inv-loop μ-loop
-x-times-requires c κs = search needs
-
-add-i : tie.Need-add-i Inv-loop μ-loop
-add-i c = omega arith
-
-loop-less : tie.Need-loop-less Inv-loop μ-loop
-loop-less c = omega arith
-
 loop-again : tie.Need-loop-again Inv-loop μ-loop
 loop-again c = (omega arith, rw xPower-next (cc))
 
@@ -38,4 +29,12 @@ returns c =
 pub x-power-spec : {M : Type 1} → statement M
 x-power-spec =
     tie.close
-    (tie.spec Inv-loop μ-loop loop-holds x-times-requires add-i loop-less loop-again returns)
+    (tie.spec
+    Inv-loop
+    μ-loop
+    loop-holds
+    (λ c κs. search needs)
+    (λ c. omega arith)
+    (λ c. omega arith)
+    loop-again
+    returns)

@@ -4,18 +4,6 @@ use borrow.Author.Needs.{needs}
 use Rattle.aes.proofs.states.shift_rows.Statement.{statement}
 use Rattle.aes.proofs.states.shift_rows.Tie as tie
 
-diagonal-requires : tie.Need-diagonal-requires
-diagonal-requires c κs = search needs
-
-diagonal-requires-2 : tie.Need-diagonal-requires-2
-diagonal-requires-2 c κs = search needs
-
-diagonal-requires-3 : tie.Need-diagonal-requires-3
-diagonal-requires-3 c κs = search needs
-
-diagonal-requires-4 : tie.Need-diagonal-requires-4
-diagonal-requires-4 c κs = search needs
-
 returns : tie.Need-returns
 unfolding shiftRows
 returns c = cc
@@ -24,8 +12,8 @@ pub shift-rows-spec : {M : Type 1} → statement M
 shift-rows-spec =
     tie.close
     (tie.spec
-    diagonal-requires
-    diagonal-requires-2
-    diagonal-requires-3
-    diagonal-requires-4
+    (λ c κs. search needs)
+    (λ c κs. search needs)
+    (λ c κs. search needs)
+    (λ c κs. search needs)
     returns)

@@ -4,18 +4,6 @@ use borrow.Author.Needs.{needs}
 use Rattle.aes.proofs.words.mix_column.Statement.{statement}
 use Rattle.aes.proofs.words.mix_column.Tie as tie
 
-mix-byte-requires : tie.Need-mix-byte-requires
-mix-byte-requires c κs = search needs
-
-mix-byte-requires-2 : tie.Need-mix-byte-requires-2
-mix-byte-requires-2 c κs = search needs
-
-mix-byte-requires-3 : tie.Need-mix-byte-requires-3
-mix-byte-requires-3 c κs = search needs
-
-mix-byte-requires-4 : tie.Need-mix-byte-requires-4
-mix-byte-requires-4 c κs = search needs
-
 returns : tie.Need-returns
 unfolding mixed
 returns c = cc (mixColumn-rows (c .before .before .before .before .args .w))
@@ -24,8 +12,8 @@ pub mix-column-spec : {M : Type 1} → statement M
 mix-column-spec =
     tie.close
     (tie.spec
-    mix-byte-requires
-    mix-byte-requires-2
-    mix-byte-requires-3
-    mix-byte-requires-4
+    (λ c κs. search needs)
+    (λ c κs. search needs)
+    (λ c κs. search needs)
+    (λ c κs. search needs)
     returns)

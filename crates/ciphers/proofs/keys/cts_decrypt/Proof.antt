@@ -10,29 +10,8 @@ use borrow.Author.Needs.{needs}
 use Rattle.ciphers.proofs.keys.cts_decrypt.Statement.{statement}
 use Rattle.ciphers.proofs.keys.cts_decrypt.Tie as tie
 
-inv-table-requires : tie.Need-inv-table-requires
-inv-table-requires c κs = search needs
-
-expanded-key-requires : tie.Need-expanded-key-requires
-expanded-key-requires c κs = search needs
-
-add-nr : tie.Need-add-nr
-add-nr c = search needs
-
-add-end : tie.Need-add-end
-add-end c = search needs
-
-mul-end : tie.Need-mul-end
-mul-end c = search needs
-
-array-share-prefix-w : tie.Need-array-share-prefix-w
-array-share-prefix-w c = search needs
-
 slice-aggregate-decrypt : tie.Need-slice-aggregate-decrypt
 slice-aggregate-decrypt c = count-take (16 * (length (now (c .before .before .before .before .before .before .args .key)) / 4 + 6 + 1)) (c .before .before .expanded-key .result) (omega arith)
-
-number-block-requires : tie.Need-number-block-requires
-number-block-requires c κs = search needs
 
 decrypt-requires : tie.Need-decrypt-requires
 decrypt-requires c κs = (
@@ -40,9 +19,6 @@ decrypt-requires c κs = (
   omega (arith, c .before .before .before .before .before .before .before .before .pre),
   omega (arith, c .before .before .before .before .before .before .before .before .pre),
 )
-
-same-length : tie.Need-same-length
-same-length c = search needs
 
 returns : tie.Need-returns
 returns c =
@@ -53,14 +29,14 @@ pub cts-decrypt-spec : {M : Type 1} → statement M
 cts-decrypt-spec =
     tie.close
     (tie.spec
-    inv-table-requires
-    expanded-key-requires
-    add-nr
-    add-end
-    mul-end
-    array-share-prefix-w
+    (λ c κs. search needs)
+    (λ c κs. search needs)
+    (λ c. search needs)
+    (λ c. search needs)
+    (λ c. search needs)
+    (λ c. search needs)
     slice-aggregate-decrypt
-    number-block-requires
+    (λ c κs. search needs)
     decrypt-requires
-    same-length
+    (λ c. search needs)
     returns)

@@ -10,29 +10,8 @@ use borrow.Author.Needs.{needs}
 use Rattle.ciphers.proofs.keys.cts_encrypt.Statement.{statement}
 use Rattle.ciphers.proofs.keys.cts_encrypt.Tie as tie
 
-table-requires : tie.Need-table-requires
-table-requires c κs = search needs
-
-expanded-key-requires : tie.Need-expanded-key-requires
-expanded-key-requires c κs = search needs
-
-add-nr : tie.Need-add-nr
-add-nr c = search needs
-
-add-end : tie.Need-add-end
-add-end c = search needs
-
-mul-end : tie.Need-mul-end
-mul-end c = search needs
-
-array-share-prefix-w : tie.Need-array-share-prefix-w
-array-share-prefix-w c = search needs
-
 slice-aggregate-encrypt : tie.Need-slice-aggregate-encrypt
 slice-aggregate-encrypt c = count-take (16 * (length (now (c .before .before .before .before .before .before .args .key)) / 4 + 6 + 1)) (c .before .before .expanded-key .result) (omega arith)
-
-number-block-requires : tie.Need-number-block-requires
-number-block-requires c κs = search needs
 
 encrypt-requires : tie.Need-encrypt-requires
 encrypt-requires c κs = (
@@ -40,9 +19,6 @@ encrypt-requires c κs = (
   omega (arith, c .before .before .before .before .before .before .before .before .pre),
   omega (arith, c .before .before .before .before .before .before .before .before .pre),
 )
-
-same-length : tie.Need-same-length
-same-length c = search needs
 
 returns : tie.Need-returns
 returns c =
@@ -53,14 +29,14 @@ pub cts-encrypt-spec : {M : Type 1} → statement M
 cts-encrypt-spec =
     tie.close
     (tie.spec
-    table-requires
-    expanded-key-requires
-    add-nr
-    add-end
-    mul-end
-    array-share-prefix-w
+    (λ c κs. search needs)
+    (λ c κs. search needs)
+    (λ c. search needs)
+    (λ c. search needs)
+    (λ c. search needs)
+    (λ c. search needs)
     slice-aggregate-encrypt
-    number-block-requires
+    (λ c κs. search needs)
     encrypt-requires
-    same-length
+    (λ c. search needs)
     returns)

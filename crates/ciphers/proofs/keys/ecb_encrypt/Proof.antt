@@ -7,15 +7,6 @@ use borrow.Author.Needs.{needs}
 use Rattle.ciphers.proofs.keys.ecb_encrypt.Statement.{statement}
 use Rattle.ciphers.proofs.keys.ecb_encrypt.Tie as tie
 
-table-requires : tie.Need-table-requires
-table-requires c κs = search needs
-
-expanded-key-requires : tie.Need-expanded-key-requires
-expanded-key-requires c κs = search needs
-
-array-share-prefix-w : tie.Need-array-share-prefix-w
-array-share-prefix-w c = search needs
-
 slice-aggregate-encrypt : tie.Need-slice-aggregate-encrypt
 slice-aggregate-encrypt c = count-take 176 (c .before .before .expanded-key .result) (omega arith)
 
@@ -26,9 +17,6 @@ encrypt-requires c κs = (
   omega (arith, c .before .before .before .before .before .before .before .pre),
 )
 
-same-length : tie.Need-same-length
-same-length c = search needs
-
 returns : tie.Need-returns
 returns c =
     under-128 (now (c .before .before .before .before .before .before .before .before .before .before .args .key)) (c .before .before .before .before .before .before .expanded-key .result) _ _ _ (c .before .before .before .before .before .before .before .before .before .before .pre .0) (c .before .before .encrypt .ensures) (c .before .before .before .before .before .before .expanded-key .ensures)
@@ -37,10 +25,10 @@ pub ecb-encrypt-spec : {M : Type 1} → statement M
 ecb-encrypt-spec =
     tie.close
     (tie.spec
-    table-requires
-    expanded-key-requires
-    array-share-prefix-w
+    (λ c κs. search needs)
+    (λ c κs. search needs)
+    (λ c. search needs)
     slice-aggregate-encrypt
     encrypt-requires
-    same-length
+    (λ c. search needs)
     returns)

@@ -4,19 +4,8 @@ use borrow.Author.Needs.{needs}
 use Rattle.ciphers.proofs.keys.expanded_key.Statement.{statement}
 use Rattle.ciphers.proofs.keys.expanded_key.Tie as tie
 
-table-requires : tie.Need-table-requires
-table-requires c κs = search needs
-
-slice-aggregate-key-expansion : tie.Need-slice-aggregate-key-expansion
-slice-aggregate-key-expansion c = search needs
-
-key-expansion-requires : tie.Need-key-expansion-requires
-key-expansion-requires c κs = search needs
-
 returns : tie.Need-returns
 returns c = schedule-by _ _ _ (c .before .key-expansion .ensures)
 
 pub expanded-key-spec : {M : Type 1} → statement M
-expanded-key-spec =
-    tie.close
-    (tie.spec table-requires slice-aggregate-key-expansion key-expansion-requires returns)
+expanded-key-spec = tie.close (tie.spec (λ c κs. search needs) (λ c. search needs) (λ c κs. search needs) returns)

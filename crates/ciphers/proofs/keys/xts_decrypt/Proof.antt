@@ -10,9 +10,6 @@ use borrow.Author.Needs.{needs}
 use Rattle.ciphers.proofs.keys.xts_decrypt.Statement.{statement}
 use Rattle.ciphers.proofs.keys.xts_decrypt.Tie as tie
 
-inv-table-requires : tie.Need-inv-table-requires
-inv-table-requires c κs = search needs
-
 slice-aggregate-expanded-key : tie.Need-slice-aggregate-expanded-key
 slice-aggregate-expanded-key c = count-take 32 (now (c .before .before .before .before .args .key)) (omega arith)
 
@@ -24,15 +21,6 @@ expanded-key-requires c κs =
 slice-aggregate-decrypt : tie.Need-slice-aggregate-decrypt
 slice-aggregate-decrypt c = search needs
 
-tweak-requires : tie.Need-tweak-requires
-tweak-requires c κs = search needs
-
-decrypt-requires : tie.Need-decrypt-requires
-decrypt-requires c κs = search needs
-
-same-length : tie.Need-same-length
-same-length c = search needs
-
 returns : tie.Need-returns
 returns c =
     under-half xtsAesDec (now (c .before .before .before .before .before .before .before .before .before .before .before .before .args .key)) (c .before .before .before .before .before .before .before .expanded-key .result) _ _ _ _ (c .before .before .before .before .before .before .before .before .before .before .before .before .pre .0) (slice-aggregate-decrypt (c .before .before .before .before .before))
@@ -42,11 +30,11 @@ pub xts-decrypt-spec : {M : Type 1} → statement M
 xts-decrypt-spec =
     tie.close
     (tie.spec
-    inv-table-requires
+    (λ c κs. search needs)
     slice-aggregate-expanded-key
     expanded-key-requires
     slice-aggregate-decrypt
-    tweak-requires
-    decrypt-requires
-    same-length
+    (λ c κs. search needs)
+    (λ c κs. search needs)
+    (λ c. search needs)
     returns)

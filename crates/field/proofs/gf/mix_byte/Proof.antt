@@ -5,15 +5,9 @@ use borrow.Author.Needs.{needs}
 use Rattle.field.proofs.gf.mix_byte.Statement.{statement}
 use Rattle.field.proofs.gf.mix_byte.Tie as tie
 
-x-times-requires : tie.Need-x-times-requires
-x-times-requires c κs = search needs
-
-x-times-requires-2 : tie.Need-x-times-requires-2
-x-times-requires-2 c κs = search needs
-
 returns : tie.Need-returns
 unfolding _⊕_
 returns c = cc (dot-mix (c .before .before .args .a) (c .before .before .args .b) (c .before .before .args .c) (c .before .before .args .d) (search needs) (search needs) (search needs) (search needs))
 
 pub mix-byte-spec : {M : Type 1} → statement M
-mix-byte-spec = tie.close (tie.spec x-times-requires x-times-requires-2 returns)
+mix-byte-spec = tie.close (tie.spec (λ c κs. search needs) (λ c κs. search needs) returns)

@@ -5,18 +5,9 @@ use borrow.Author.Needs.{needs}
 use Rattle.field.proofs.gf.times_0e.Statement.{statement}
 use Rattle.field.proofs.gf.times_0e.Tie as tie
 
-x-times-requires : tie.Need-x-times-requires
-x-times-requires c κs = search needs
-
-x-times-requires-2 : tie.Need-x-times-requires-2
-x-times-requires-2 c κs = search needs
-
-x-times-requires-3 : tie.Need-x-times-requires-3
-x-times-requires-3 c κs = search needs
-
 returns : tie.Need-returns
 unfolding _⊕_
 returns c = cc (times-0e (c .before .before .before .args .b) (search needs))
 
 pub times-0e-spec : {M : Type 1} → statement M
-times-0e-spec = tie.close (tie.spec x-times-requires x-times-requires-2 x-times-requires-3 returns)
+times-0e-spec = tie.close (tie.spec (λ c κs. search needs) (λ c κs. search needs) (λ c κs. search needs) returns)

@@ -4,15 +4,9 @@ use borrow.Author.Needs.{needs}
 use Rattle.field.proofs.gf.x_times.Statement.{statement}
 use Rattle.field.proofs.gf.x_times.Tie as tie
 
-mul-result : tie.Need-mul-result
-mul-result c = search needs
-
-mul-result-2 : tie.Need-mul-result-2
-mul-result-2 c = search needs
-
 returns : tie.Need-returns
 unfolding xTimes _⊕_
 returns c = search needs
 
 pub x-times-spec : {M : Type 1} → statement M
-x-times-spec = tie.close (tie.spec mul-result mul-result-2 returns)
+x-times-spec = tie.close (tie.spec (λ c. search needs) (λ c. search needs) returns)

@@ -6,9 +6,6 @@ use borrow.Author.Needs.{needs}
 use Rattle.fscrypt.proofs.encode.encode_name.Statement.{statement}
 use Rattle.fscrypt.proofs.encode.encode_name.Tie as tie
 
-cast-len : tie.Need-cast-len
-cast-len c = search needs
-
 array-share-prefix-bytes : tie.Need-array-share-prefix-bytes
 array-share-prefix-bytes c = let s = c .before .before .before in let g = name-sized (s .args .stored) (s .good .0) in omega arith
 
@@ -17,9 +14,6 @@ slice-aggregate-encode-short c = let s = c .before .before .before .before in le
 
 encode-short-requires : tie.Need-encode-short-requires
 encode-short-requires c κs = let s = c .before .before .before .before in let g = name-sized (s .args .stored) (s .good .0) in omega (arith, count-take (s .args .stored .len) (s .args .stored .bytes) (omega arith))
-
-returns : tie.Need-returns
-returns c = search needs
 
 array-share-prefix-bytes-2 : tie.Need-array-share-prefix-bytes-2
 array-share-prefix-bytes-2 c = let s = c .before .before .before in let g = name-sized (s .args .stored) (s .good .0) in omega arith
@@ -30,19 +24,16 @@ slice-aggregate-encode-long c = let s = c .before .before .before .before in let
 encode-long-requires : tie.Need-encode-long-requires
 encode-long-requires c κs = let s = c .before .before .before .before in let g = name-sized (s .args .stored) (s .good .0) in omega (arith, count-take (s .args .stored .len) (s .args .stored .bytes) (omega arith))
 
-returns-2 : tie.Need-returns-2
-returns-2 c = search needs
-
 pub encode-name-spec : {M : Type 1} → statement M
 encode-name-spec =
     tie.close
     (tie.spec
-    cast-len
+    (λ c. search needs)
     array-share-prefix-bytes
     slice-aggregate-encode-short
     encode-short-requires
-    returns
+    (λ c. search needs)
     array-share-prefix-bytes-2
     slice-aggregate-encode-long
     encode-long-requires
-    returns-2)
+    (λ c. search needs))

@@ -5,26 +5,14 @@ use borrow.Author.Needs.{needs}
 use Rattle.fscrypt.proofs.encode.letter.Statement.{statement}
 use Rattle.fscrypt.proofs.encode.letter.Tie as tie
 
-add-result : tie.Need-add-result
-add-result c = search needs
-
 returns : tie.Need-returns
 returns c = letter-upper _ (omega arith)
-
-add-result-2 : tie.Need-add-result-2
-add-result-2 c = search needs
 
 returns-2 : tie.Need-returns-2
 returns-2 c = letter-lower _ (omega arith) (omega arith)
 
-sub-result : tie.Need-sub-result
-sub-result c = search needs
-
 returns-3 : tie.Need-returns-3
 returns-3 c = letter-digit _ (omega arith) (omega arith)
-
-sub-result-2 : tie.Need-sub-result-2
-sub-result-2 c = search needs
 
 returns-4 : tie.Need-returns-4
 returns-4 c = letter-sign _ (omega arith)
@@ -33,11 +21,11 @@ pub letter-spec : {M : Type 1} → statement M
 letter-spec =
     tie.close
     (tie.spec
-    add-result
+    (λ c. search needs)
     returns
-    add-result-2
+    (λ c. search needs)
     returns-2
-    sub-result
+    (λ c. search needs)
     returns-3
-    sub-result-2
+    (λ c. search needs)
     returns-4)

@@ -18,29 +18,11 @@ Inv-loop at s count bytes₀ j₀ bytes j = (count ≡ length (letters s)) × (j
 abbrev μ-loop : tie.MeasureT-loop
 μ-loop at s count bytes₀ j₀ bytes j = count - j
 
-mul-count : tie.Need-mul-count Inv-loop μ-loop
-mul-count c = search needs
-
-add-count : tie.Need-add-count Inv-loop μ-loop
-add-count c = search needs
-
 loop-holds : tie.Need-loop-holds Inv-loop μ-loop
 loop-holds c = (sym (length-letters _), omega arith, search needs, search needs, paste-zero (c .before .args .into) (c .before .args .at) (letters (now (c .before .args .s))))
 
-letter-at-requires : tie.Need-letter-at-requires Inv-loop μ-loop
-letter-at-requires c κs = omega arith
-
-add-bytes : tie.Need-add-bytes Inv-loop μ-loop
-add-bytes c = omega arith
-
 array-write-bytes : tie.Need-array-write-bytes Inv-loop μ-loop
 array-write-bytes c = omega (arith, length-letters (now (c .before .before .before .before .args .s)))
-
-add-j : tie.Need-add-j Inv-loop μ-loop
-add-j c = search needs
-
-loop-less : tie.Need-loop-less Inv-loop μ-loop
-loop-less c = search needs
 
 loop-again : tie.Need-loop-again Inv-loop μ-loop
 loop-again c =
@@ -58,13 +40,13 @@ put-letters-spec =
     (tie.spec
     Inv-loop
     μ-loop
-    mul-count
-    add-count
+    (λ c. search needs)
+    (λ c. search needs)
     loop-holds
-    letter-at-requires
-    add-bytes
+    (λ c κs. omega arith)
+    (λ c. omega arith)
     array-write-bytes
-    add-j
-    loop-less
+    (λ c. search needs)
+    (λ c. search needs)
     loop-again
     returns)

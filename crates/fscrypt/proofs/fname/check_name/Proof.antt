@@ -14,9 +14,6 @@ returns-2 : tie.Need-returns-2
 unfolding nameCheck
 returns-2 c = search (predicates, stop, skip) depth 25
 
-is-bad-name-requires : tie.Need-is-bad-name-requires
-is-bad-name-requires c κs = search needs
-
 returns-3 : tie.Need-returns-3
 unfolding nameCheck
 returns-3 c = search (predicates, stop, skip) depth 25
@@ -26,4 +23,4 @@ unfolding nameCheck
 returns-4 c = search (predicates, skip) depth 25
 
 pub check-name-spec : {M : Type 1} → statement M
-check-name-spec = tie.close (tie.spec returns returns-2 is-bad-name-requires returns-3 returns-4)
+check-name-spec = tie.close (tie.spec returns returns-2 (λ c κs. search needs) returns-3 returns-4)

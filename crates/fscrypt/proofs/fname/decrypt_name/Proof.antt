@@ -7,12 +7,6 @@ use Rattle.fscrypt.proofs.Shape.{name-sized, cut-length}
 use Rattle.fscrypt.proofs.fname.decrypt_name.Statement.{statement}
 use Rattle.fscrypt.proofs.fname.decrypt_name.Tie as tie
 
-decrypted-requires : tie.Need-decrypted-requires
-decrypted-requires c κs = search needs
-
-cast-len : tie.Need-cast-len
-cast-len c = search needs
-
 array-share-prefix-bytes : tie.Need-array-share-prefix-bytes
 array-share-prefix-bytes c = let d = c .before .before .decrypted in let g = name-sized (d .result) (d .ok) in omega arith
 
@@ -29,8 +23,8 @@ pub decrypt-name-spec : {M : Type 1} → statement M
 decrypt-name-spec =
     tie.close
     (tie.spec
-    decrypted-requires
-    cast-len
+    (λ c κs. search needs)
+    (λ c. search needs)
     array-share-prefix-bytes
     slice-aggregate-read-padded
     read-padded-requires

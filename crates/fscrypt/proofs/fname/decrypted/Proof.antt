@@ -8,17 +8,11 @@ use Rattle.fscrypt.proofs.Shape.{name-sized, cut-length}
 use Rattle.fscrypt.proofs.fname.decrypted.Statement.{statement}
 use Rattle.fscrypt.proofs.fname.decrypted.Tie as tie
 
-cast-len : tie.Need-cast-len
-cast-len c = search needs
-
 array-borrow-prefix-bytes : tie.Need-array-borrow-prefix-bytes
 array-borrow-prefix-bytes c = let s = c .before .before .before in let g = name-sized (s .args .stored) (s .good .1 .0) in omega arith
 
 slice-aggregate-decrypt-text : tie.Need-slice-aggregate-decrypt-text
 slice-aggregate-decrypt-text c = let s = c .before .before .before .before in sym (cut-length (name-sized (s .args .stored) (s .good .1 .0)))
-
-decrypt-text-requires : tie.Need-decrypt-text-requires
-decrypt-text-requires c κs = search needs
 
 returns : tie.Need-returns
 returns c = let s = c .before .before .before .before .before .before in
@@ -29,8 +23,8 @@ pub decrypted-spec : {M : Type 1} → statement M
 decrypted-spec =
     tie.close
     (tie.spec
-    cast-len
+    (λ c. search needs)
     array-borrow-prefix-bytes
     slice-aggregate-decrypt-text
-    decrypt-text-requires
+    (λ c κs. search needs)
     returns)

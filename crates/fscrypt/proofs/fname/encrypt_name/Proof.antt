@@ -11,20 +11,11 @@ use Rattle.fscrypt.proofs.Shape.{name-sized, cut-length}
 use Rattle.fscrypt.proofs.fname.encrypt_name.Statement.{statement}
 use Rattle.fscrypt.proofs.fname.encrypt_name.Tie as tie
 
-pad-requires : tie.Need-pad-requires
-pad-requires c κs = search needs
-
-cast-len : tie.Need-cast-len
-cast-len c = search needs
-
 array-borrow-prefix-bytes : tie.Need-array-borrow-prefix-bytes
 array-borrow-prefix-bytes c = let d = c .before .before .pad in let g = name-sized (d .result) (d .ok) in omega arith
 
 slice-aggregate-encrypt-text : tie.Need-slice-aggregate-encrypt-text
 slice-aggregate-encrypt-text c = let d = c .before .before .before .pad in sym (cut-length (name-sized (d .result) (d .ok)))
-
-encrypt-text-requires : tie.Need-encrypt-text-requires
-encrypt-text-requires c κs = search needs
 
 returns : tie.Need-returns
 returns c = let s = c .before .before .before .before .before .before .before .before in
@@ -35,9 +26,9 @@ pub encrypt-name-spec : {M : Type 1} → statement M
 encrypt-name-spec =
     tie.close
     (tie.spec
-    pad-requires
-    cast-len
+    (λ c κs. search needs)
+    (λ c. search needs)
     array-borrow-prefix-bytes
     slice-aggregate-encrypt-text
-    encrypt-text-requires
+    (λ c κs. search needs)
     returns)

@@ -18,20 +18,8 @@ abbrev μ-loop : tie.MeasureT-loop
 loop-holds : tie.Need-loop-holds Inv-loop μ-loop
 loop-holds c = (search needs, scanned-none _ _)
 
-shared-slice-read-is-nul-or-slash : tie.Need-shared-slice-read-is-nul-or-slash Inv-loop μ-loop
-shared-slice-read-is-nul-or-slash c = search needs
-
-is-nul-or-slash-requires : tie.Need-is-nul-or-slash-requires Inv-loop μ-loop
-is-nul-or-slash-requires c κs = search needs
-
 returns : tie.Need-returns Inv-loop μ-loop
 returns c = let l = c .before .before .before .before .loop in hit _ _ 0 (l .i) (omega arith) (l .inv .1) (sym (c .before .is-nul-or-slash .ensures) ∙ c .if1 .taken)
-
-add-i : tie.Need-add-i Inv-loop μ-loop
-add-i c = search needs
-
-loop-less : tie.Need-loop-less Inv-loop μ-loop
-loop-less c = search needs
 
 loop-again : tie.Need-loop-again Inv-loop μ-loop
 loop-again c = let l = c .before .before .before .before .loop in (omega arith, miss _ _ 0 (l .i) (omega arith) (l .inv .1) (sym (c .before .is-nul-or-slash .ensures) ∙ c .if1 .left))
@@ -46,10 +34,10 @@ first-nul-or-slash-spec =
     Inv-loop
     μ-loop
     loop-holds
-    shared-slice-read-is-nul-or-slash
-    is-nul-or-slash-requires
+    (λ c. search needs)
+    (λ c κs. search needs)
     returns
-    add-i
-    loop-less
+    (λ c. search needs)
+    (λ c. search needs)
     loop-again
     returns-2)

@@ -6,21 +6,9 @@ use Rattle.fscrypt.specs.Names.{isDotName}
 use Rattle.fscrypt.proofs.fname.is_dot_name.Statement.{statement}
 use Rattle.fscrypt.proofs.fname.is_dot_name.Tie as tie
 
-slice-aggregate-same-bytes : tie.Need-slice-aggregate-same-bytes
-slice-aggregate-same-bytes c = search needs
-
-same-bytes-requires : tie.Need-same-bytes-requires
-same-bytes-requires c κs = search needs
-
 returns : tie.Need-returns
 unfolding isDotName
 returns c = search predicates depth 12
-
-slice-aggregate-same-bytes-2 : tie.Need-slice-aggregate-same-bytes-2
-slice-aggregate-same-bytes-2 c = search needs
-
-same-bytes-requires-2 : tie.Need-same-bytes-requires-2
-same-bytes-requires-2 c κs = search needs
 
 returns-2 : tie.Need-returns-2
 unfolding isDotName
@@ -30,9 +18,9 @@ pub is-dot-name-spec : {M : Type 1} → statement M
 is-dot-name-spec =
     tie.close
     (tie.spec
-    slice-aggregate-same-bytes
-    same-bytes-requires
+    (λ c. search needs)
+    (λ c κs. search needs)
     returns
-    slice-aggregate-same-bytes-2
-    same-bytes-requires-2
+    (λ c. search needs)
+    (λ c κs. search needs)
     returns-2)

@@ -21,27 +21,12 @@ sub-is-all-nul c = omega (arith, firstAt-le isNul (now (c .before .args .b)))
 part-is-all-nul-start : tie.Need-part-is-all-nul-start
 part-is-all-nul-start c = omega (arith, firstAt-le isNul (now (c .before .args .b)))
 
-part-is-all-nul-end : tie.Need-part-is-all-nul-end
-part-is-all-nul-end c = search needs
-
-is-all-nul-requires : tie.Need-is-all-nul-requires
-is-all-nul-requires c κs = search needs
-
 returns : tie.Need-returns
 returns c = let s = c .before .before .before .before in
     not-nul (s .args .flags) (s .args .n) (now (s .args .b)) (s .pre .0) _ (c .before .is-all-nul .ensures ∙ ap isAllNul (part-to-end (now (s .args .b)) (s .args .n))) (not-true _ (c .if1 .taken))
 
 slice-aggregate-check-name : tie.Need-slice-aggregate-check-name
 slice-aggregate-check-name c = let s = c .before .before .before .before .before in sym (length-take-le (s .args .n) (now (s .args .b)) (omega (arith, firstAt-le isNul (now (s .args .b)))))
-
-check-name-requires : tie.Need-check-name-requires
-check-name-requires c κs = search needs
-
-enum-told : tie.Need-enum-told
-enum-told c = search needs
-
-enum-told-2 : tie.Need-enum-told-2
-enum-told-2 c = search needs
 
 returns-2 : tie.Need-returns-2
 returns-2 c = let s = c .before .before .before .before .before .before .before .before in
@@ -61,13 +46,13 @@ is-padded-spec =
     (tie.spec
     sub-is-all-nul
     part-is-all-nul-start
-    part-is-all-nul-end
-    is-all-nul-requires
+    (λ c. search needs)
+    (λ c κs. search needs)
     returns
     slice-aggregate-check-name
-    check-name-requires
-    enum-told
-    enum-told-2
+    (λ c κs. search needs)
+    (λ c. search needs)
+    (λ c. search needs)
     returns-2
     padded-length-requires
     returns-3)

@@ -7,15 +7,6 @@ use Rattle.fscrypt.proofs.Padding.{pad-fits}
 use Rattle.fscrypt.proofs.fname.pad.Statement.{statement}
 use Rattle.fscrypt.proofs.fname.pad.Tie as tie
 
-zeros255-requires : tie.Need-zeros255-requires
-zeros255-requires c κs = search needs
-
-put-name-requires : tie.Need-put-name-requires
-put-name-requires c κs = search needs
-
-padded-length-requires : tie.Need-padded-length-requires
-padded-length-requires c κs = search needs
-
 cast-t7 : tie.Need-cast-t7
 cast-t7 c = let s = c .before .before .before .before in let f = pad-fits (s .args .flags) (length (s .args .name .now)) (s .pre) in omega (arith, f .high)
 
@@ -23,6 +14,4 @@ returns : tie.Need-returns
 returns c = let s = c .before .before .before .before in laid-padded (s .args .flags) _ _ _ (s .args .name .now) (s .pre) (c .padded-length .ensures) (c .before .put-name .ensures) (c .before .before .zeros255 .ensures)
 
 pub pad-spec : {M : Type 1} → statement M
-pad-spec =
-    tie.close
-    (tie.spec zeros255-requires put-name-requires padded-length-requires cast-t7 returns)
+pad-spec = tie.close (tie.spec (λ c κs. search needs) (λ c κs. search needs) (λ c κs. search needs) cast-t7 returns)

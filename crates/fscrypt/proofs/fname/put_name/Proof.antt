@@ -8,12 +8,6 @@ use borrow.Author.Needs.{needs}
 use Rattle.fscrypt.proofs.fname.put_name.Statement.{statement}
 use Rattle.fscrypt.proofs.fname.put_name.Tie as tie
 
-slice-aggregate-copy-to : tie.Need-slice-aggregate-copy-to
-slice-aggregate-copy-to c = search needs
-
-copy-to-requires : tie.Need-copy-to-requires
-copy-to-requires c κs = search needs
-
 returns : tie.Need-returns
 returns c =
     let s = c .before .before .before .before .args in
@@ -21,4 +15,4 @@ returns c =
     c .before .copy-to .ensures ∙ copied-over (s .into) (now (s .name)) h
 
 pub put-name-spec : {M : Type 1} → statement M
-put-name-spec = tie.close (tie.spec slice-aggregate-copy-to copy-to-requires returns)
+put-name-spec = tie.close (tie.spec (λ c. search needs) (λ c κs. search needs) returns)

@@ -11,18 +11,6 @@ use Rattle.fscrypt.proofs.Packing.{read-refused, read-fine}
 use Rattle.fscrypt.proofs.fname.read_padded.Statement.{statement}
 use Rattle.fscrypt.proofs.fname.read_padded.Tie as tie
 
-first-nul-requires : tie.Need-first-nul-requires
-first-nul-requires c κs = search needs
-
-is-padded-requires : tie.Need-is-padded-requires
-is-padded-requires c κs = search needs
-
-slice-aggregate-pack : tie.Need-slice-aggregate-pack
-slice-aggregate-pack c = search needs
-
-pack-requires : tie.Need-pack-requires
-pack-requires c κs = search needs
-
 returns : tie.Need-returns
 returns c = let s = c .before .before .before .before .before .before in
     read-refused (s .args .flags) (now (s .args .b)) _ (sym (c .before .before .before .is-padded .ensures) ∙ not-true _ (c .before .before .if1 .taken)) (c .pack .ensures)
@@ -42,10 +30,10 @@ pub read-padded-spec : {M : Type 1} → statement M
 read-padded-spec =
     tie.close
     (tie.spec
-    first-nul-requires
-    is-padded-requires
-    slice-aggregate-pack
-    pack-requires
+    (λ c κs. search needs)
+    (λ c κs. search needs)
+    (λ c. search needs)
+    (λ c κs. search needs)
     returns
     slice-aggregate-pack-2
     pack-requires-2

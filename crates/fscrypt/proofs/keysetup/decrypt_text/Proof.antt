@@ -4,15 +4,9 @@ use Rattle.fscrypt.specs.Cipher.{decryptName}
 use Rattle.fscrypt.proofs.keysetup.decrypt_text.Statement.{statement}
 use Rattle.fscrypt.proofs.keysetup.decrypt_text.Tie as tie
 
-cts-decrypt-requires : tie.Need-cts-decrypt-requires
-cts-decrypt-requires c κs = search needs
-
-same-length : tie.Need-same-length
-same-length c = search needs
-
 returns : tie.Need-returns
 unfolding decryptName
 returns c = cc
 
 pub decrypt-text-spec : {M : Type 1} → statement M
-decrypt-text-spec = tie.close (tie.spec cts-decrypt-requires same-length returns)
+decrypt-text-spec = tie.close (tie.spec (λ c κs. search needs) (λ c. search needs) returns)

@@ -5,23 +5,8 @@ use borrow.Author.Needs.{needs}
 use Rattle.modes.proofs.cts.decrypt.Statement.{statement}
 use Rattle.modes.proofs.cts.decrypt.Tie as tie
 
-sub-m : tie.Need-sub-m
-sub-m c = search needs
-
-inv-steal-requires : tie.Need-inv-steal-requires
-inv-steal-requires c κs = search needs
-
-same-length : tie.Need-same-length
-same-length c = search needs
-
 returns : tie.Need-returns
 returns c = c .before .before .inv-steal .ensures ∙ sym (decrypted-long _ _ _ _ (c .before .before .before .before .if1 .taken))
-
-inv-single-requires : tie.Need-inv-single-requires
-inv-single-requires c κs = search needs
-
-same-length-2 : tie.Need-same-length-2
-same-length-2 c = search needs
 
 returns-2 : tie.Need-returns-2
 returns-2 c = c .before .before .inv-single .ensures ∙ sym (decrypted-one _ _ _ _ (c .before .before .before .before .if1 .left))
@@ -29,4 +14,11 @@ returns-2 c = c .before .before .inv-single .ensures ∙ sym (decrypted-one _ _ 
 pub decrypt-spec : {M : Type 1} → statement M
 decrypt-spec =
     tie.close
-    (tie.spec sub-m inv-steal-requires same-length returns inv-single-requires same-length-2 returns-2)
+    (tie.spec
+    (λ c. search needs)
+    (λ c κs. search needs)
+    (λ c. search needs)
+    returns
+    (λ c κs. search needs)
+    (λ c. search needs)
+    returns-2)

@@ -5,23 +5,8 @@ use borrow.Author.Needs.{needs}
 use Rattle.modes.proofs.cts.encrypt.Statement.{statement}
 use Rattle.modes.proofs.cts.encrypt.Tie as tie
 
-sub-m : tie.Need-sub-m
-sub-m c = search needs
-
-steal-requires : tie.Need-steal-requires
-steal-requires c κs = search needs
-
-same-length : tie.Need-same-length
-same-length c = search needs
-
 returns : tie.Need-returns
 returns c = c .before .before .steal .ensures ∙ sym (encrypted-long _ _ _ _ (c .before .before .before .before .if1 .taken))
-
-single-requires : tie.Need-single-requires
-single-requires c κs = search needs
-
-same-length-2 : tie.Need-same-length-2
-same-length-2 c = search needs
 
 returns-2 : tie.Need-returns-2
 returns-2 c = c .before .before .single .ensures ∙ sym (encrypted-one _ _ _ _ (c .before .before .before .before .if1 .left))
@@ -29,4 +14,11 @@ returns-2 c = c .before .before .single .ensures ∙ sym (encrypted-one _ _ _ _ 
 pub encrypt-spec : {M : Type 1} → statement M
 encrypt-spec =
     tie.close
-    (tie.spec sub-m steal-requires same-length returns single-requires same-length-2 returns-2)
+    (tie.spec
+    (λ c. search needs)
+    (λ c κs. search needs)
+    (λ c. search needs)
+    returns
+    (λ c κs. search needs)
+    (λ c. search needs)
+    returns-2)

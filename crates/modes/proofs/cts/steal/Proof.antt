@@ -19,42 +19,12 @@ abbrev μ-loop : tie.MeasureT-loop
 loop-holds : tie.Need-loop-holds Inv-loop μ-loop
 loop-holds c = (omega arith, refl, going-start _ _ _ _)
 
-mul-load : tie.Need-mul-load Inv-loop μ-loop
-mul-load c = omega arith
-
-load-requires : tie.Need-load-requires Inv-loop μ-loop
-load-requires c κs = omega arith
-
-cbc-block-requires : tie.Need-cbc-block-requires Inv-loop μ-loop
-cbc-block-requires c κs = search needs
-
-mul-store : tie.Need-mul-store Inv-loop μ-loop
-mul-store c = omega arith
-
-store-requires : tie.Need-store-requires Inv-loop μ-loop
-store-requires c κs = omega arith
-
-add-i : tie.Need-add-i Inv-loop μ-loop
-add-i c = omega arith
-
-loop-less : tie.Need-loop-less Inv-loop μ-loop
-loop-less c = omega arith
-
 loop-again : tie.Need-loop-again Inv-loop μ-loop
 loop-again c = (
   omega arith,
   omega (arith, c .before .before .store .kept .0),
   going-turn _ _ _ _ _ _ _ _ _ _ _ (c .before .before .before .before .before .before .before .before .loop .inv .2) (c .before .before .before .before .before .load .ensures) (c .before .before .before .before .cbc-block .ensures) (c .before .before .store .ensures) refl,
 )
-
-mul-last-two : tie.Need-mul-last-two Inv-loop μ-loop
-mul-last-two c = omega arith
-
-last-two-requires : tie.Need-last-two-requires Inv-loop μ-loop
-last-two-requires c κs = search needs
-
-same-length : tie.Need-same-length Inv-loop μ-loop
-same-length c = omega arith
 
 returns : tie.Need-returns Inv-loop μ-loop
 returns c =
@@ -68,15 +38,15 @@ steal-spec =
     Inv-loop
     μ-loop
     loop-holds
-    mul-load
-    load-requires
-    cbc-block-requires
-    mul-store
-    store-requires
-    add-i
-    loop-less
+    (λ c. omega arith)
+    (λ c κs. omega arith)
+    (λ c κs. search needs)
+    (λ c. omega arith)
+    (λ c κs. omega arith)
+    (λ c. omega arith)
+    (λ c. omega arith)
     loop-again
-    mul-last-two
-    last-two-requires
-    same-length
+    (λ c. omega arith)
+    (λ c κs. search needs)
+    (λ c. omega arith)
     returns)

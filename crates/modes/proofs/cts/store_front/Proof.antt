@@ -12,26 +12,11 @@ use Rattle.aes.proofs.PutAt.{alone}
 use Rattle.modes.proofs.cts.store_front.Statement.{statement}
 use Rattle.modes.proofs.cts.store_front.Tie as tie
 
-slice-aggregate-store : tie.Need-slice-aggregate-store
-slice-aggregate-store c = search needs
-
-store-requires : tie.Need-store-requires
-store-requires c κs = search needs
-
-sub-n : tie.Need-sub-n
-sub-n c = search needs
-
-array-share-prefix-t : tie.Need-array-share-prefix-t
-array-share-prefix-t c = search needs
-
 slice-aggregate-copy-to : tie.Need-slice-aggregate-copy-to
 slice-aggregate-copy-to c = count-take _ _ (omega arith)
 
 copy-to-requires : tie.Need-copy-to-requires
 copy-to-requires c κs = simp length-take (omega arith)
-
-same-length : tie.Need-same-length
-same-length c = search needs
 
 returns : tie.Need-returns
 returns c =
@@ -45,11 +30,11 @@ pub store-front-spec : {M : Type 1} → statement M
 store-front-spec =
     tie.close
     (tie.spec
-    slice-aggregate-store
-    store-requires
-    sub-n
-    array-share-prefix-t
+    (λ c. search needs)
+    (λ c κs. search needs)
+    (λ c. search needs)
+    (λ c. search needs)
     slice-aggregate-copy-to
     copy-to-requires
-    same-length
+    (λ c. search needs)
     returns)

@@ -4,18 +4,6 @@ use borrow.Author.Needs.{needs}
 use Rattle.modes.proofs.xts.number_block.Statement.{statement}
 use Rattle.modes.proofs.xts.number_block.Tie as tie
 
-low-word-requires : tie.Need-low-word-requires
-low-word-requires c κs = search needs
-
-low-word-requires-2 : tie.Need-low-word-requires-2
-low-word-requires-2 c κs = search needs
-
-zero-word-requires : tie.Need-zero-word-requires
-zero-word-requires c κs = search needs
-
-zero-word-requires-2 : tie.Need-zero-word-requires-2
-zero-word-requires-2 c κs = search needs
-
 returns : tie.Need-returns
 unfolding numberBlock
 returns c = cc
@@ -24,8 +12,8 @@ pub number-block-spec : {M : Type 1} → statement M
 number-block-spec =
     tie.close
     (tie.spec
-    low-word-requires
-    low-word-requires-2
-    zero-word-requires
-    zero-word-requires-2
+    (λ c κs. search needs)
+    (λ c κs. search needs)
+    (λ c κs. search needs)
+    (λ c κs. search needs)
     returns)

@@ -5,14 +5,8 @@ use borrow.Author.Needs.{needs}
 use Rattle.script.proofs.arguments.descriptor_in.Statement.{statement}
 use Rattle.script.proofs.arguments.descriptor_in.Tie as tie
 
-slice-aggregate-lay : tie.Need-slice-aggregate-lay
-slice-aggregate-lay c = search needs
-
-lay-requires : tie.Need-lay-requires
-lay-requires c κs = search needs
-
 returns : tie.Need-returns
 returns c = c .before .lay .ensures ∙ laid-whole _ _ (c .before .before .before .before .pre)
 
 pub descriptor-in-spec : {M : Type 1} → statement M
-descriptor-in-spec = tie.close (tie.spec slice-aggregate-lay lay-requires returns)
+descriptor-in-spec = tie.close (tie.spec (λ c. search needs) (λ c κs. search needs) returns)

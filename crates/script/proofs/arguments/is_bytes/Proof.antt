@@ -8,17 +8,11 @@ use borrow.Author.Needs.{needs}
 use Rattle.script.proofs.arguments.is_bytes.Statement.{statement}
 use Rattle.script.proofs.arguments.is_bytes.Tie as tie
 
-is-byte-string-requires : tie.Need-is-byte-string-requires
-is-byte-string-requires c κs = search needs
-
 returns : tie.Need-returns
 returns c = and-stop _ _ (sym (c .before .is-byte-string .ensures) ∙ not-true _ (c .if1 .taken))
-
-byte-count-requires : tie.Need-byte-count-requires
-byte-count-requires c κs = search needs
 
 returns-2 : tie.Need-returns-2
 returns-2 c = and-go _ _ _ (sym (c .before .before .is-byte-string .ensures) ∙ not-false _ (c .before .if1 .left)) (ap (λ (k : ℕ). eqb k (c .before .before .before .before .args .n)) (c .byte-count .ensures))
 
 pub is-bytes-spec : {M : Type 1} → statement M
-is-bytes-spec = tie.close (tie.spec is-byte-string-requires returns byte-count-requires returns-2)
+is-bytes-spec = tie.close (tie.spec (λ c κs. search needs) returns (λ c κs. search needs) returns-2)

@@ -13,29 +13,8 @@ use borrow.Author.Needs.{needs}
 use Rattle.script.proofs.arguments.read_words.Statement.{statement}
 use Rattle.script.proofs.arguments.read_words.Tie as tie
 
-no-args-requires : tie.Need-no-args-requires
-no-args-requires c κs = search needs
-
-take-two-requires : tie.Need-take-two-requires
-take-two-requires c κs = search needs
-
-after-two-requires : tie.Need-after-two-requires
-after-two-requires c κs = search needs
-
 take-two-requires-2 : tie.Need-take-two-requires-2
 take-two-requires-2 c κs = let l = now (c .before .before .before .before .before .before .before .before .before .args .line) in omega (arith, c .before .before .before .before .before .before .before .before .before .pre, ap length (c .before .after-two .ensures), afterWord-length (afterWord l), afterWord-length l)
-
-after-two-requires-2 : tie.Need-after-two-requires-2
-after-two-requires-2 c κs = search needs
-
-first-word-requires : tie.Need-first-word-requires
-first-word-requires c κs = search needs
-
-take-nothing-requires : tie.Need-take-nothing-requires
-take-nothing-requires c κs = search needs
-
-same-length : tie.Need-same-length
-same-length c = search needs
 
 returns : tie.Need-returns
 returns c =
@@ -49,12 +28,12 @@ pub read-words-spec : {M : Type 1} → statement M
 read-words-spec =
     tie.close
     (tie.spec
-    no-args-requires
-    take-two-requires
-    after-two-requires
+    (λ c κs. search needs)
+    (λ c κs. search needs)
+    (λ c κs. search needs)
     take-two-requires-2
-    after-two-requires-2
-    first-word-requires
-    take-nothing-requires
-    same-length
+    (λ c κs. search needs)
+    (λ c κs. search needs)
+    (λ c κs. search needs)
+    (λ c. search needs)
     returns)

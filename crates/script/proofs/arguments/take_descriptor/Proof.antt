@@ -7,12 +7,6 @@ use borrow.Author.Needs.{needs}
 use Rattle.script.proofs.arguments.take_descriptor.Statement.{statement}
 use Rattle.script.proofs.arguments.take_descriptor.Tie as tie
 
-is-bytes-requires : tie.Need-is-bytes-requires
-is-bytes-requires c κs = search needs
-
-not-good-requires : tie.Need-not-good-requires
-not-good-requires c κs = search needs
-
 returns : tie.Need-returns
 returns c = c .not-good .ensures ∙ descriptor-not _ _ (sym (c .before .before .is-bytes .ensures) ∙ not-true _ (c .before .if1 .taken))
 
@@ -25,4 +19,9 @@ returns-2 c = ap (withDescriptor (c .before .before .before .before .args .a)) (
 pub take-descriptor-spec : {M : Type 1} → statement M
 take-descriptor-spec =
     tie.close
-    (tie.spec is-bytes-requires not-good-requires returns descriptor-in-requires returns-2)
+    (tie.spec
+    (λ c κs. search needs)
+    (λ c κs. search needs)
+    returns
+    descriptor-in-requires
+    returns-2)

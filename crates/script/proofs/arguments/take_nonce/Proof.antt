@@ -8,33 +8,15 @@ use borrow.Author.Needs.{needs}
 use Rattle.script.proofs.arguments.take_nonce.Statement.{statement}
 use Rattle.script.proofs.arguments.take_nonce.Tie as tie
 
-slice-aggregate-same-bytes : tie.Need-slice-aggregate-same-bytes
-slice-aggregate-same-bytes c = search needs
-
-same-bytes-requires : tie.Need-same-bytes-requires
-same-bytes-requires c κs = search needs
-
-with-nonce-requires : tie.Need-with-nonce-requires
-with-nonce-requires c κs = search needs
-
 returns : tie.Need-returns
 unfolding zeros
 returns c = c .with-nonce .ensures ∙ nonce-none _ _ (sym (c .before .before .same-bytes .ensures) ∙ c .before .if1 .taken)
-
-is-bytes-requires : tie.Need-is-bytes-requires
-is-bytes-requires c κs = search needs
-
-not-good-requires : tie.Need-not-good-requires
-not-good-requires c κs = search needs
 
 returns-2 : tie.Need-returns-2
 returns-2 c = c .not-good .ensures ∙ nonce-not _ _ (sym (c .before .before .before .before .same-bytes .ensures) ∙ c .before .before .before .if1 .left) (sym (c .before .before .is-bytes .ensures) ∙ not-true _ (c .before .if2 .taken))
 
 nonce-in-requires : tie.Need-nonce-in-requires
 nonce-in-requires c κs = isBytes-count 16 _ (sym (c .before .is-bytes .ensures) ∙ not-false _ (c .if2 .left))
-
-with-nonce-requires-2 : tie.Need-with-nonce-requires-2
-with-nonce-requires-2 c κs = search needs
 
 returns-3 : tie.Need-returns-3
 returns-3 c = c .with-nonce2 .ensures ∙ ap (withNonce (c .before .before .before .before .before .before .before .before .args .a)) (c .before .nonce-in .ensures) ∙ nonce-is _ _ (sym (c .before .before .before .before .before .same-bytes .ensures) ∙ c .before .before .before .before .if1 .left) (sym (c .before .before .before .is-bytes .ensures) ∙ not-false _ (c .before .before .if2 .left))
@@ -43,13 +25,13 @@ pub take-nonce-spec : {M : Type 1} → statement M
 take-nonce-spec =
     tie.close
     (tie.spec
-    slice-aggregate-same-bytes
-    same-bytes-requires
-    with-nonce-requires
+    (λ c. search needs)
+    (λ c κs. search needs)
+    (λ c κs. search needs)
     returns
-    is-bytes-requires
-    not-good-requires
+    (λ c κs. search needs)
+    (λ c κs. search needs)
     returns-2
     nonce-in-requires
-    with-nonce-requires-2
+    (λ c κs. search needs)
     returns-3)

@@ -5,21 +5,6 @@ use borrow.Author.Needs.{needs}
 use Rattle.script.proofs.arguments.take_second.Statement.{statement}
 use Rattle.script.proofs.arguments.take_second.Tie as tie
 
-number-requires : tie.Need-number-requires
-number-requires c κs = search needs
-
-enum-known-n : tie.Need-enum-known-n
-enum-known-n c = search needs
-
-with-second-requires : tie.Need-with-second-requires
-with-second-requires c κs = search needs
-
-enum-told : tie.Need-enum-told
-enum-told c = search needs
-
-not-good-requires : tie.Need-not-good-requires
-not-good-requires c κs = search needs
-
 returns : tie.Need-returns
 returns c = c .with-second .ensures ∙ second-is _ _ _ (sym (c .before .before .n .given .1) ∙ c .before .before .before .before .number .ensures)
 
@@ -30,10 +15,10 @@ pub take-second-spec : {M : Type 1} → statement M
 take-second-spec =
     tie.close
     (tie.spec
-    number-requires
-    enum-known-n
-    with-second-requires
-    enum-told
-    not-good-requires
+    (λ c κs. search needs)
+    (λ c. search needs)
+    (λ c κs. search needs)
+    (λ c. search needs)
+    (λ c κs. search needs)
     returns
     returns-2)

@@ -6,18 +6,11 @@ use borrow.Author.Needs.{needs}
 use Rattle.script.proofs.arguments.take_size.Statement.{statement}
 use Rattle.script.proofs.arguments.take_size.Tie as tie
 
-with-second-requires : tie.Need-with-second-requires
-with-second-requires c κs = search needs
-
 returns : tie.Need-returns
 returns c = c .with-second .ensures ∙ size-none _ _ (eq-eqb _ _ (c .before .if1 .taken))
-
-take-second-requires : tie.Need-take-second-requires
-take-second-requires c κs = search needs
 
 returns-2 : tie.Need-returns-2
 returns-2 c = c .take-second .ensures ∙ size-is _ _ (ne-eqb _ _ (c .before .if1 .left))
 
 pub take-size-spec : {M : Type 1} → statement M
-take-size-spec =
-    tie.close (tie.spec with-second-requires returns take-second-requires returns-2)
+take-size-spec = tie.close (tie.spec (λ c κs. search needs) returns (λ c κs. search needs) returns-2)

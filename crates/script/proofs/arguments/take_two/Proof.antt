@@ -9,23 +9,11 @@ use borrow.Author.Needs.{needs}
 use Rattle.script.proofs.arguments.take_two.Statement.{statement}
 use Rattle.script.proofs.arguments.take_two.Tie as tie
 
-first-word-requires : tie.Need-first-word-requires
-first-word-requires c κs = search needs
-
 take-word-requires : tie.Need-take-word-requires
 take-word-requires c κs = omega (arith, c .before .before .before .before .pre, ap length (c .before .first-word .ensures), firstWord-length (now (c .before .before .before .before .args .line)))
 
-after-word-requires : tie.Need-after-word-requires
-after-word-requires c κs = search needs
-
-first-word-requires-2 : tie.Need-first-word-requires-2
-first-word-requires-2 c κs = search needs
-
 take-word-requires-2 : tie.Need-take-word-requires-2
 take-word-requires-2 c κs = omega (arith, c .before .before .before .before .before .before .before .before .before .before .pre, ap length (c .before .first-word2 .ensures), firstWord-length (now (c .before .before .after-word .result)), ap length (c .before .before .after-word .ensures), afterWord-length (now (c .before .before .before .before .before .before .before .before .before .before .args .line)))
-
-same-length : tie.Need-same-length
-same-length c = search needs
 
 returns : tie.Need-returns
 returns c = took-two _ _ _ _ _ _ _ _ _ _ _ _ (c .before .before .before .before .before .before .before .before .before .before .first-word .ensures) (c .before .before .before .before .before .before .before .before .take-word .ensures .0) (c .before .before .before .before .before .before .before .before .take-word .ensures .1) (c .before .before .before .before .before .after-word .ensures) (c .before .before .before .before .first-word2 .ensures) (c .before .before .take-word2 .ensures .0) (c .before .before .take-word2 .ensures .1)
@@ -34,10 +22,10 @@ pub take-two-spec : {M : Type 1} → statement M
 take-two-spec =
     tie.close
     (tie.spec
-    first-word-requires
+    (λ c κs. search needs)
     take-word-requires
-    after-word-requires
-    first-word-requires-2
+    (λ c κs. search needs)
+    (λ c κs. search needs)
     take-word-requires-2
-    same-length
+    (λ c. search needs)
     returns)

@@ -9,56 +9,11 @@ use borrow.Author.Needs.{needs}
 use Rattle.script.proofs.arguments.take_word.Statement.{statement}
 use Rattle.script.proofs.arguments.take_word.Tie as tie
 
-enum-told : tie.Need-enum-told
-enum-told c = search needs
-
-take-first-requires : tie.Need-take-first-requires
-take-first-requires c κs = search needs
-
-enum-told-2 : tie.Need-enum-told-2
-enum-told-2 c = search needs
-
-take-second-requires : tie.Need-take-second-requires
-take-second-requires c κs = search needs
-
-enum-told-3 : tie.Need-enum-told-3
-enum-told-3 c = search needs
-
-take-text-requires : tie.Need-take-text-requires
-take-text-requires c κs = search needs
-
-enum-told-4 : tie.Need-enum-told-4
-enum-told-4 c = search needs
-
-take-descriptor-requires : tie.Need-take-descriptor-requires
-take-descriptor-requires c κs = search needs
-
-enum-told-5 : tie.Need-enum-told-5
-enum-told-5 c = search needs
-
-take-nonce-requires : tie.Need-take-nonce-requires
-take-nonce-requires c κs = search needs
-
-enum-told-6 : tie.Need-enum-told-6
-enum-told-6 c = search needs
-
-take-size-requires : tie.Need-take-size-requires
-take-size-requires c κs = search needs
-
-enum-told-7 : tie.Need-enum-told-7
-enum-told-7 c = search needs
-
-take-nothing-requires : tie.Need-take-nothing-requires
-take-nothing-requires c κs = search needs
-
 returns : tie.Need-returns
 returns c = took _ _ _ _ _ _ (c .before .enum-told .given .1) refl (c .take-first .ensures)
 
 returns-2 : tie.Need-returns-2
 returns-2 c = took _ _ _ _ _ _ (c .before .enum-told2 .given .1) refl (c .take-second .ensures)
-
-same-length : tie.Need-same-length
-same-length c = search needs
 
 returns-3 : tie.Need-returns-3
 returns-3 c = let s = c .before .before .before .before .before .before .before .before .args in let t = sym (c .before .before .before .before .enum-told3 .given .1) in (c .before .before .take-text .ensures .0 ∙ ap (λ (x : Sort). taken (s .a) x (now (s .w))) t, c .before .before .take-text .ensures .1 ∙ ap (λ (x : Sort). takenText (take (s .a .len) (now (s .beside))) x (now (s .w))) t)
@@ -79,23 +34,23 @@ pub take-word-spec : {M : Type 1} → statement M
 take-word-spec =
     tie.close
     (tie.spec
-    enum-told
-    take-first-requires
-    enum-told-2
-    take-second-requires
-    enum-told-3
-    take-text-requires
-    enum-told-4
-    take-descriptor-requires
-    enum-told-5
-    take-nonce-requires
-    enum-told-6
-    take-size-requires
-    enum-told-7
-    take-nothing-requires
+    (λ c. search needs)
+    (λ c κs. search needs)
+    (λ c. search needs)
+    (λ c κs. search needs)
+    (λ c. search needs)
+    (λ c κs. search needs)
+    (λ c. search needs)
+    (λ c κs. search needs)
+    (λ c. search needs)
+    (λ c κs. search needs)
+    (λ c. search needs)
+    (λ c κs. search needs)
+    (λ c. search needs)
+    (λ c κs. search needs)
     returns
     returns-2
-    same-length
+    (λ c. search needs)
     returns-3
     returns-4
     returns-5

@@ -7,41 +7,11 @@ use borrow.Author.Needs.{needs}
 use Rattle.script.proofs.cutting.add_byte.Statement.{statement}
 use Rattle.script.proofs.cutting.add_byte.Tie as tie
 
-slice-write-line : tie.Need-slice-write-line
-slice-write-line c = search needs
-
-add-result : tie.Need-add-result
-add-result c = search needs
-
-same-length : tie.Need-same-length
-same-length c = search needs
-
 returns : tie.Need-returns
 returns c = let a = c .before .before .args in (omega arith, store-room (now (a .line)) (a .used) (a .b) (c .if1 .taken))
 
-sub-last : tie.Need-sub-last
-sub-last c = search needs
-
-slice-read-end : tie.Need-slice-read-end
-slice-read-end c = search needs
-
-is-blank-requires : tie.Need-is-blank-requires
-is-blank-requires c κs = search needs
-
-slice-write-line-2 : tie.Need-slice-write-line-2
-slice-write-line-2 c = search needs
-
-same-length-2 : tie.Need-same-length-2
-same-length-2 c = search needs
-
 returns-2 : tie.Need-returns-2
 returns-2 c = let s = c .before .before .before .before .before in let a = s .args in (s .pre .0, store-blank (now (a .line)) (a .used) (a .b) (c .before .before .before .if1 .left) (sym (c .before .is-blank .ensures) ∙ c .if2 .taken))
-
-slice-write-line-3 : tie.Need-slice-write-line-3
-slice-write-line-3 c = search needs
-
-same-length-3 : tie.Need-same-length-3
-same-length-3 c = search needs
 
 returns-3 : tie.Need-returns-3
 returns-3 c = let s = c .before .before .before .before .before .before in let a = s .args in (s .pre .0, store-return (now (a .line)) (a .used) (a .b) (c .before .before .before .before .if1 .left) (sym (c .before .before .is-blank .ensures) ∙ c .before .if2 .left) (c .if3 .taken))
@@ -53,17 +23,17 @@ pub add-byte-spec : {M : Type 1} → statement M
 add-byte-spec =
     tie.close
     (tie.spec
-    slice-write-line
-    add-result
-    same-length
+    (λ c. search needs)
+    (λ c. search needs)
+    (λ c. search needs)
     returns
-    sub-last
-    slice-read-end
-    is-blank-requires
-    slice-write-line-2
-    same-length-2
+    (λ c. search needs)
+    (λ c. search needs)
+    (λ c κs. search needs)
+    (λ c. search needs)
+    (λ c. search needs)
     returns-2
-    slice-write-line-3
-    same-length-3
+    (λ c. search needs)
+    (λ c. search needs)
     returns-3
     returns-4)

@@ -23,33 +23,12 @@ loop-holds : tie.Need-loop-holds Inv-loop μ-loop
 unfolding keptOn
 loop-holds c = (search needs, search needs, refl, search needs, scanned-none _ _, refl)
 
-shared-slice-read-if1 : tie.Need-shared-slice-read-if1 Inv-loop μ-loop
-shared-slice-read-if1 c = search needs
-
-add-t10 : tie.Need-add-t10 Inv-loop μ-loop
-add-t10 c = search needs
-
-same-length : tie.Need-same-length Inv-loop μ-loop
-same-length c = search needs
-
 returns : tie.Need-returns Inv-loop μ-loop
 returns c =
     let l = c .before .before .before .loop in
     let s = c .before .before .before .before .before .before .args in
     let e = hit isNewline (now (s .bytes)) 0 (l .i) (c .before .before .loop-test .taken) (l .inv .4) (eq-eqb _ _ (c .if1 .taken)) in
     (omega arith, l .inv .5 ∙ cut-here _ _ _ _ e, omega arith, sym (lt-ltb (firstAt isNewline (now (s .bytes))) (length (now (s .bytes))) (omega arith)))
-
-shared-slice-read-add-byte : tie.Need-shared-slice-read-add-byte Inv-loop μ-loop
-shared-slice-read-add-byte c = search needs
-
-add-byte-requires : tie.Need-add-byte-requires Inv-loop μ-loop
-add-byte-requires c κs = search needs
-
-add-i : tie.Need-add-i Inv-loop μ-loop
-add-i c = search needs
-
-loop-less : tie.Need-loop-less Inv-loop μ-loop
-loop-less c = search needs
 
 loop-again : tie.Need-loop-again Inv-loop μ-loop
 loop-again c =
@@ -68,9 +47,6 @@ loop-again c =
     next : {m n : ℕ} {k l : Bytes} → m ≡ n → k ≡ l → (b : ℕ) → keep m k b ≡ keep n l b
     next e f b = cc
 
-same-length-2 : tie.Need-same-length-2 Inv-loop μ-loop
-same-length-2 c = search needs
-
 returns-2 : tie.Need-returns-2 Inv-loop μ-loop
 returns-2 c =
     let l = c .before .loop in
@@ -85,14 +61,14 @@ take-line-spec =
     Inv-loop
     μ-loop
     loop-holds
-    shared-slice-read-if1
-    add-t10
-    same-length
+    (λ c. search needs)
+    (λ c. search needs)
+    (λ c. search needs)
     returns
-    shared-slice-read-add-byte
-    add-byte-requires
-    add-i
-    loop-less
+    (λ c. search needs)
+    (λ c κs. search needs)
+    (λ c. search needs)
+    (λ c. search needs)
     loop-again
-    same-length-2
+    (λ c. search needs)
     returns-2)

@@ -24,38 +24,14 @@ returns c = no-digits _ (c .if1 .taken)
 loop-holds : tie.Need-loop-holds Inv-loop μ-loop
 loop-holds c = (search needs, digits-start _ (c .if1 .left))
 
-shared-slice-read-b : tie.Need-shared-slice-read-b Inv-loop μ-loop
-shared-slice-read-b c = search needs
-
-is-digit-requires : tie.Need-is-digit-requires Inv-loop μ-loop
-is-digit-requires c κs = search needs
-
 returns-2 : tie.Need-returns-2 Inv-loop μ-loop
 returns-2 c = let l = c .before .before .before .before .loop in sym (l .inv .1 ∙ digits-bad _ (l .i) (l .n) (omega arith) (sym (c .before .is-digit .ensures) ∙ not-true _ (c .if2 .taken)))
 
 sub-wide : tie.Need-sub-wide Inv-loop μ-loop
 sub-wide c = within-low 48 57 _ (sym (c .before .is-digit .ensures) ∙ not-false _ (c .if2 .left))
 
-wide-requires : tie.Need-wide-requires Inv-loop μ-loop
-wide-requires c κs = search needs
-
-sub-if3 : tie.Need-sub-if3 Inv-loop μ-loop
-sub-if3 c = search needs
-
 returns-3 : tie.Need-returns-3 Inv-loop μ-loop
 returns-3 c = let l = c .before .before .before .before .before .before .loop in sym (l .inv .1 ∙ digits-large _ (l .i) (l .n) (omega arith) (omega (arith, c .before .wide .ensures)))
-
-mul-n : tie.Need-mul-n Inv-loop μ-loop
-mul-n c = search needs
-
-add-n : tie.Need-add-n Inv-loop μ-loop
-add-n c = search needs
-
-add-i : tie.Need-add-i Inv-loop μ-loop
-add-i c = search needs
-
-loop-less : tie.Need-loop-less Inv-loop μ-loop
-loop-less c = search needs
 
 loop-again : tie.Need-loop-again Inv-loop μ-loop
 loop-again c = let l = c .before .before .before .before .before .before .loop in (omega arith, l .inv .1 ∙ digits-next _ (l .i) (l .n) (omega arith) (sym (c .before .before .before .is-digit .ensures) ∙ not-false _ (c .before .before .if2 .left)) (omega (arith, c .before .wide .ensures)) ∙ ap (λ (k : ℕ). digitsFrom (l .n * 10 + k) (drop (l .i + 1) (c .before .before .before .before .before .before .before .before .before .args .s .now))) (sym (c .before .wide .ensures)))
@@ -71,16 +47,16 @@ number-spec =
     μ-loop
     returns
     loop-holds
-    shared-slice-read-b
-    is-digit-requires
+    (λ c. search needs)
+    (λ c κs. search needs)
     returns-2
     sub-wide
-    wide-requires
-    sub-if3
+    (λ c κs. search needs)
+    (λ c. search needs)
     returns-3
-    mul-n
-    add-n
-    add-i
-    loop-less
+    (λ c. search needs)
+    (λ c. search needs)
+    (λ c. search needs)
+    (λ c. search needs)
     loop-again
     returns-4)

@@ -24,59 +24,14 @@ loop-holds : tie.Need-loop-holds Inv-loop μ-loop
 unfolding toHex
 loop-holds c = (search needs, refl, refl, c .before .before .pre)
 
-shared-slice-read-high-digit : tie.Need-shared-slice-read-high-digit Inv-loop μ-loop
-shared-slice-read-high-digit c = search needs
-
-high-digit-requires : tie.Need-high-digit-requires Inv-loop μ-loop
-high-digit-requires c κs = search needs
-
-mul-out : tie.Need-mul-out Inv-loop μ-loop
-mul-out c = search needs
-
-add-out : tie.Need-add-out Inv-loop μ-loop
-add-out c = search needs
-
-slice-write-out : tie.Need-slice-write-out Inv-loop μ-loop
-slice-write-out c = search needs
-
-shared-slice-read-low-digit : tie.Need-shared-slice-read-low-digit Inv-loop μ-loop
-shared-slice-read-low-digit c = search needs
-
-low-digit-requires : tie.Need-low-digit-requires Inv-loop μ-loop
-low-digit-requires c κs = search needs
-
-mul-out-2 : tie.Need-mul-out-2 Inv-loop μ-loop
-mul-out-2 c = search needs
-
-add-out-2 : tie.Need-add-out-2 Inv-loop μ-loop
-add-out-2 c = search needs
-
-add-out-3 : tie.Need-add-out-3 Inv-loop μ-loop
-add-out-3 c = search needs
-
 slice-write-out-2 : tie.Need-slice-write-out-2 Inv-loop μ-loop
 slice-write-out-2 c = simp length-set (omega arith)
-
-add-i : tie.Need-add-i Inv-loop μ-loop
-add-i c = search needs
-
-loop-less : tie.Need-loop-less Inv-loop μ-loop
-loop-less c = search needs
 
 loop-again : tie.Need-loop-again Inv-loop μ-loop
 loop-again c = let l = c .before .before .before .before .before .loop in let s = c .before .before .before .before .before .before .before .before .args in let e : 2 * l .i ≡ length (toHex (take (l .i) (now (s .s)))) = omega (arith, toHex-length (take (l .i) (now (s .s))), length-take (l .i) (now (s .s))) in let k : l .i < length (now (s .s)) = omega arith in (omega arith, ap (λ (x : List ℕ). set (set x (s .at + 2 * l .i) (c .before .before .high-digit .result)) (s .at + 2 * l .i + 1) (c .low-digit .result)) (l .inv .1) ∙ sets-two (now (s .out)) (s .at) (toHex (take (l .i) (now (s .s)))) (2 * l .i) (c .before .before .high-digit .result) (c .low-digit .result) e ∙ ap (sets (now (s .out)) (s .at)) (digits (now (s .s)) (l .i) (c .before .before .high-digit .ensures) (c .low-digit .ensures) k), simp length-set (l .inv .2), l .inv .3)
   where
     digits : (s : List ℕ) (i : ℕ) {x y : ℕ} → x ≡ hexDigit (getD s i 0 / 16) → y ≡ hexDigit (getD s i 0 % 16) → i < length s → toHex (take i s) ++ (x ∷ y ∷ []) ≡ toHex (take (i + 1) s)
     digits s i e f h = rw (e, f) (sym (toHex-next s i h))
-
-mul-result : tie.Need-mul-result Inv-loop μ-loop
-mul-result c = search needs
-
-add-result : tie.Need-add-result Inv-loop μ-loop
-add-result c = search needs
-
-same-length : tie.Need-same-length Inv-loop μ-loop
-same-length c = search needs
 
 returns : tie.Need-returns Inv-loop μ-loop
 returns c = let l = c .before .loop in let s = c .before .before .before .before .args in let e : length (now (s .s)) ≤ l .i = omega arith in (omega (arith, toHex-length (now (s .s))), l .inv .1 ∙ ap (λ (x : List ℕ). sets (now (s .out)) (s .at) (toHex x)) (take-all _ _ e))
@@ -88,21 +43,21 @@ put-hex-spec =
     Inv-loop
     μ-loop
     loop-holds
-    shared-slice-read-high-digit
-    high-digit-requires
-    mul-out
-    add-out
-    slice-write-out
-    shared-slice-read-low-digit
-    low-digit-requires
-    mul-out-2
-    add-out-2
-    add-out-3
+    (λ c. search needs)
+    (λ c κs. search needs)
+    (λ c. search needs)
+    (λ c. search needs)
+    (λ c. search needs)
+    (λ c. search needs)
+    (λ c κs. search needs)
+    (λ c. search needs)
+    (λ c. search needs)
+    (λ c. search needs)
     slice-write-out-2
-    add-i
-    loop-less
+    (λ c. search needs)
+    (λ c. search needs)
     loop-again
-    mul-result
-    add-result
-    same-length
+    (λ c. search needs)
+    (λ c. search needs)
+    (λ c. search needs)
     returns)

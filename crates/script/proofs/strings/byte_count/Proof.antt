@@ -7,9 +7,6 @@ use borrow.Author.Needs.{needs}
 use Rattle.script.proofs.strings.byte_count.Statement.{statement}
 use Rattle.script.proofs.strings.byte_count.Tie as tie
 
-is-quoted-requires : tie.Need-is-quoted-requires
-is-quoted-requires c κs = search needs
-
 sub-result : tie.Need-sub-result
 sub-result c = omega (arith, quoted-some (now (c .before .before .before .args .s)) (sym (c .before .is-quoted .ensures) ∙ c .if1 .taken))
 
@@ -20,4 +17,4 @@ returns-2 : tie.Need-returns-2
 returns-2 c = hex-count _ (sym (c .before .is-quoted .ensures) ∙ c .if1 .left)
 
 pub byte-count-spec : {M : Type 1} → statement M
-byte-count-spec = tie.close (tie.spec is-quoted-requires sub-result returns returns-2)
+byte-count-spec = tie.close (tie.spec (λ c κs. search needs) sub-result returns returns-2)

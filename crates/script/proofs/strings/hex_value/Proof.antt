@@ -7,26 +7,17 @@ use borrow.Author.Needs.{needs}
 use Rattle.script.proofs.strings.hex_value.Statement.{statement}
 use Rattle.script.proofs.strings.hex_value.Tie as tie
 
-is-digit-requires : tie.Need-is-digit-requires
-is-digit-requires c κs = search needs
-
 sub-result : tie.Need-sub-result
 sub-result c = omega (arith, within-low 48 57 (c .before .before .args .b) (sym (c .before .is-digit .ensures) ∙ c .if1 .taken))
 
 returns : tie.Need-returns
 returns c = let e = sym (c .before .is-digit .ensures) ∙ c .if1 .taken in (value-digit _ e, omega (arith, within-high 48 57 (c .before .before .args .b) e))
 
-is-small-requires : tie.Need-is-small-requires
-is-small-requires c κs = search needs
-
 sub-result-2 : tie.Need-sub-result-2
 sub-result-2 c = omega (arith, within-low 97 102 (c .before .before .before .before .args .b) (sym (c .before .is-small .ensures) ∙ c .if2 .taken))
 
 returns-2 : tie.Need-returns-2
 returns-2 c = let e = sym (c .before .is-small .ensures) ∙ c .if2 .taken in (value-small _ (sym (c .before .before .before .is-digit .ensures) ∙ c .before .before .if1 .left) e, omega (arith, within-high 97 102 (c .before .before .before .before .args .b) e))
-
-is-large-requires : tie.Need-is-large-requires
-is-large-requires c κs = search needs
 
 sub-result-3 : tie.Need-sub-result-3
 sub-result-3 c = omega (arith, within-low 65 70 (c .before .before .before .before .before .before .args .b) (sym (c .before .is-large .ensures) ∙ c .if3 .taken))
@@ -41,13 +32,13 @@ pub hex-value-spec : {M : Type 1} → statement M
 hex-value-spec =
     tie.close
     (tie.spec
-    is-digit-requires
+    (λ c κs. search needs)
     sub-result
     returns
-    is-small-requires
+    (λ c κs. search needs)
     sub-result-2
     returns-2
-    is-large-requires
+    (λ c κs. search needs)
     sub-result-3
     returns-3
     returns-4)

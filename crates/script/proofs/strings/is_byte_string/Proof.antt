@@ -7,18 +7,9 @@ use borrow.Author.Needs.{needs}
 use Rattle.script.proofs.strings.is_byte_string.Statement.{statement}
 use Rattle.script.proofs.strings.is_byte_string.Tie as tie
 
-is-quoted-requires : tie.Need-is-quoted-requires
-is-quoted-requires c κs = search needs
-
 returns : tie.Need-returns
 unfolding isByteString
 returns c = search joins depth 16
-
-slice-aggregate-same-bytes : tie.Need-slice-aggregate-same-bytes
-slice-aggregate-same-bytes c = search needs
-
-same-bytes-requires : tie.Need-same-bytes-requires
-same-bytes-requires c κs = search needs
 
 returns-2 : tie.Need-returns-2
 unfolding isByteString
@@ -32,9 +23,6 @@ returns-4 : tie.Need-returns-4
 unfolding isByteString
 returns-4 c = search (joins, not-of-true, not-of-false, eq-eqb, ne-eqb) depth 16
 
-is-hex-requires : tie.Need-is-hex-requires
-is-hex-requires c κs = search needs
-
 returns-5 : tie.Need-returns-5
 unfolding isByteString
 returns-5 c = search (joins, not-of-true, not-of-false, eq-eqb, ne-eqb) depth 16
@@ -43,12 +31,12 @@ pub is-byte-string-spec : {M : Type 1} → statement M
 is-byte-string-spec =
     tie.close
     (tie.spec
-    is-quoted-requires
+    (λ c κs. search needs)
     returns
-    slice-aggregate-same-bytes
-    same-bytes-requires
+    (λ c. search needs)
+    (λ c κs. search needs)
     returns-2
     returns-3
     returns-4
-    is-hex-requires
+    (λ c κs. search needs)
     returns-5)

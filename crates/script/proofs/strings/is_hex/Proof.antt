@@ -19,21 +19,9 @@ abbrev μ-loop : tie.MeasureT-loop
 loop-holds : tie.Need-loop-holds Inv-loop μ-loop
 loop-holds c = (search needs, scanned-none _ _)
 
-shared-slice-read-is-hex-digit : tie.Need-shared-slice-read-is-hex-digit Inv-loop μ-loop
-shared-slice-read-is-hex-digit c = search needs
-
-is-hex-digit-requires : tie.Need-is-hex-digit-requires Inv-loop μ-loop
-is-hex-digit-requires c κs = search needs
-
 returns : tie.Need-returns Inv-loop μ-loop
 unfolding isHex
 returns c = let l = c .before .before .before .before .loop in all-stop _ _ 0 (l .i) (omega arith) (l .inv .1) (ap not (sym (c .before .is-hex-digit .ensures)) ∙ c .if1 .taken)
-
-add-i : tie.Need-add-i Inv-loop μ-loop
-add-i c = search needs
-
-loop-less : tie.Need-loop-less Inv-loop μ-loop
-loop-less c = search needs
 
 loop-again : tie.Need-loop-again Inv-loop μ-loop
 loop-again c = let l = c .before .before .before .before .loop in (omega arith, miss _ _ 0 (l .i) (omega arith) (l .inv .1) (ap not (sym (c .before .is-hex-digit .ensures)) ∙ c .if1 .left))
@@ -49,10 +37,10 @@ is-hex-spec =
     Inv-loop
     μ-loop
     loop-holds
-    shared-slice-read-is-hex-digit
-    is-hex-digit-requires
+    (λ c. search needs)
+    (λ c κs. search needs)
     returns
-    add-i
-    loop-less
+    (λ c. search needs)
+    (λ c. search needs)
     loop-again
     returns-2)

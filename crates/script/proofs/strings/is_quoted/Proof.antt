@@ -8,11 +8,5 @@ use Rattle.script.proofs.strings.is_quoted.Tie as tie
 returns : tie.Need-returns
 returns c = not-quoted (now (c .before .args .s)) (c .if1 .taken)
 
-shared-slice-read-result : tie.Need-shared-slice-read-result
-shared-slice-read-result c = search needs
-
-returns-2 : tie.Need-returns-2
-returns-2 c = search needs
-
 pub is-quoted-spec : {M : Type 1} → statement M
-is-quoted-spec = tie.close (tie.spec returns shared-slice-read-result returns-2)
+is-quoted-spec = tie.close (tie.spec returns (λ c. search needs) (λ c. search needs))

@@ -10,32 +10,20 @@ use borrow.Author.Needs.{needs}
 use Rattle.script.proofs.strings.lay.Statement.{statement}
 use Rattle.script.proofs.strings.lay.Tie as tie
 
-is-quoted-requires : tie.Need-is-quoted-requires
-is-quoted-requires c κs = search needs
-
 sub-lay-bytes : tie.Need-sub-lay-bytes
 sub-lay-bytes c = omega (arith, quoted-some (now (c .before .before .before .before .args .s)) (sym (c .before .is-quoted .ensures) ∙ c .if1 .taken))
 
 part-lay-bytes-start : tie.Need-part-lay-bytes-start
 part-lay-bytes-start c = omega (arith, quoted-some (now (c .before .before .before .before .args .s)) (sym (c .before .is-quoted .ensures) ∙ c .if1 .taken))
 
-part-lay-bytes-end : tie.Need-part-lay-bytes-end
-part-lay-bytes-end c = search needs
-
 lay-bytes-requires : tie.Need-lay-bytes-requires
 lay-bytes-requires c κs = let s = now (c .before .before .before .before .before .before .args .s) in simp (length-take, length-drop) (omega (arith, c .before .before .before .before .before .before .pre, quoted-count s (sym (c .before .before .before .is-quoted .ensures) ∙ c .before .before .if1 .taken)))
-
-same-length : tie.Need-same-length
-same-length c = search needs
 
 returns : tie.Need-returns
 returns c = let s = c .before .before .before .before .before .before .before .before .before .args in let e = sym (c .before .before .before .before .before .before .is-quoted .ensures) ∙ c .before .before .before .before .before .if1 .taken in c .before .before .lay-bytes .ensures ∙ ap (laidOver (now (s .out))) (part-to-end (now (s .s)) 1 ∙ sym (quoted-bytes _ e))
 
 lay-hex-requires : tie.Need-lay-hex-requires
 lay-hex-requires c κs = let s = now (c .before .before .before .before .before .args .s) in omega (arith, c .before .before .before .before .before .pre, ap length (hex-bytes s (sym (c .before .before .is-quoted .ensures) ∙ c .before .if1 .left)))
-
-same-length-2 : tie.Need-same-length-2
-same-length-2 c = search needs
 
 returns-2 : tie.Need-returns-2
 returns-2 c = let s = c .before .before .before .before .before .before .before .before .args in c .before .before .lay-hex .ensures ∙ ap (laidOver (now (s .out))) (sym (hex-bytes _ (sym (c .before .before .before .before .before .is-quoted .ensures) ∙ c .before .before .before .before .if1 .left)))
@@ -44,13 +32,13 @@ pub lay-spec : {M : Type 1} → statement M
 lay-spec =
     tie.close
     (tie.spec
-    is-quoted-requires
+    (λ c κs. search needs)
     sub-lay-bytes
     part-lay-bytes-start
-    part-lay-bytes-end
+    (λ c. search needs)
     lay-bytes-requires
-    same-length
+    (λ c. search needs)
     returns
     lay-hex-requires
-    same-length-2
+    (λ c. search needs)
     returns-2)

@@ -6,14 +6,8 @@ use Rattle.lists.proofs.Copies.{copied-over}
 use Rattle.script.proofs.strings.lay_bytes.Statement.{statement}
 use Rattle.script.proofs.strings.lay_bytes.Tie as tie
 
-copy-to-requires : tie.Need-copy-to-requires
-copy-to-requires c κs = search needs
-
-same-length : tie.Need-same-length
-same-length c = search needs
-
 returns : tie.Need-returns
 returns c = let s = c .before .before .before .before .before .before in c .before .before .copy-to .ensures ∙ copied-over (now (s .args .out)) (now (s .args .s)) (s .pre)
 
 pub lay-bytes-spec : {M : Type 1} → statement M
-lay-bytes-spec = tie.close (tie.spec copy-to-requires same-length returns)
+lay-bytes-spec = tie.close (tie.spec (λ c κs. search needs) (λ c. search needs) returns)

@@ -21,38 +21,8 @@ abbrev μ-loop : tie.MeasureT-loop
 loop-holds : tie.Need-loop-holds Inv-loop μ-loop
 loop-holds c = (omega arith, refl, refl, refl, c .before .before .pre, fromHex-length _)
 
-mul-hex-byte : tie.Need-mul-hex-byte Inv-loop μ-loop
-mul-hex-byte c = search needs
-
-shared-slice-read-hex-byte : tie.Need-shared-slice-read-hex-byte Inv-loop μ-loop
-shared-slice-read-hex-byte c = search needs
-
-mul-hex-byte-2 : tie.Need-mul-hex-byte-2 Inv-loop μ-loop
-mul-hex-byte-2 c = search needs
-
-add-hex-byte : tie.Need-add-hex-byte Inv-loop μ-loop
-add-hex-byte c = search needs
-
-shared-slice-read-hex-byte-2 : tie.Need-shared-slice-read-hex-byte-2 Inv-loop μ-loop
-shared-slice-read-hex-byte-2 c = search needs
-
-hex-byte-requires : tie.Need-hex-byte-requires Inv-loop μ-loop
-hex-byte-requires c κs = search needs
-
-slice-write-out : tie.Need-slice-write-out Inv-loop μ-loop
-slice-write-out c = search needs
-
-add-i : tie.Need-add-i Inv-loop μ-loop
-add-i c = search needs
-
-loop-less : tie.Need-loop-less Inv-loop μ-loop
-loop-less c = search needs
-
 loop-again : tie.Need-loop-again Inv-loop μ-loop
 loop-again c = let l = c .before .before .before .before .loop in (omega arith, refl, ap (λ (k : ℕ). set (l .out) k (c .hex-byte .result)) (sym (zero-add (l .i))) ∙ paste-turn _ 0 _ _ (l .i) _ (omega arith) (omega arith) (l .inv .2) (c .hex-byte .ensures ∙ sym (fromHex-at _ (l .i) (omega arith))), simp length-set (l .inv .3), l .inv .4, l .inv .5)
-
-same-length : tie.Need-same-length Inv-loop μ-loop
-same-length c = search needs
 
 returns : tie.Need-returns Inv-loop μ-loop
 returns c = let l = c .before .loop in paste-end _ 0 _ _ (l .i) (l .inv .2) (omega arith) ∙ rw zero-add
@@ -64,15 +34,15 @@ lay-hex-spec =
     Inv-loop
     μ-loop
     loop-holds
-    mul-hex-byte
-    shared-slice-read-hex-byte
-    mul-hex-byte-2
-    add-hex-byte
-    shared-slice-read-hex-byte-2
-    hex-byte-requires
-    slice-write-out
-    add-i
-    loop-less
+    (λ c. search needs)
+    (λ c. search needs)
+    (λ c. search needs)
+    (λ c. search needs)
+    (λ c. search needs)
+    (λ c κs. search needs)
+    (λ c. search needs)
+    (λ c. search needs)
+    (λ c. search needs)
     loop-again
-    same-length
+    (λ c. search needs)
     returns)

@@ -5,90 +5,6 @@ use borrow.Author.Needs.{needs}
 use Rattle.script.proofs.verbs.shape_of.Statement.{statement}
 use Rattle.script.proofs.verbs.shape_of.Tie as tie
 
-enum-told : tie.Need-enum-told
-enum-told c = search needs
-
-takes-requires : tie.Need-takes-requires
-takes-requires c κs = search needs
-
-enum-told-2 : tie.Need-enum-told-2
-enum-told-2 c = search needs
-
-takes-requires-2 : tie.Need-takes-requires-2
-takes-requires-2 c κs = search needs
-
-enum-told-3 : tie.Need-enum-told-3
-enum-told-3 c = search needs
-
-takes-requires-3 : tie.Need-takes-requires-3
-takes-requires-3 c κs = search needs
-
-enum-told-4 : tie.Need-enum-told-4
-enum-told-4 c = search needs
-
-takes-requires-4 : tie.Need-takes-requires-4
-takes-requires-4 c κs = search needs
-
-enum-told-5 : tie.Need-enum-told-5
-enum-told-5 c = search needs
-
-takes-requires-5 : tie.Need-takes-requires-5
-takes-requires-5 c κs = search needs
-
-enum-told-6 : tie.Need-enum-told-6
-enum-told-6 c = search needs
-
-takes-requires-6 : tie.Need-takes-requires-6
-takes-requires-6 c κs = search needs
-
-enum-told-7 : tie.Need-enum-told-7
-enum-told-7 c = search needs
-
-takes-requires-7 : tie.Need-takes-requires-7
-takes-requires-7 c κs = search needs
-
-enum-told-8 : tie.Need-enum-told-8
-enum-told-8 c = search needs
-
-takes-requires-8 : tie.Need-takes-requires-8
-takes-requires-8 c κs = search needs
-
-enum-told-9 : tie.Need-enum-told-9
-enum-told-9 c = search needs
-
-takes-requires-9 : tie.Need-takes-requires-9
-takes-requires-9 c κs = search needs
-
-enum-told-10 : tie.Need-enum-told-10
-enum-told-10 c = search needs
-
-takes-requires-10 : tie.Need-takes-requires-10
-takes-requires-10 c κs = search needs
-
-enum-told-11 : tie.Need-enum-told-11
-enum-told-11 c = search needs
-
-takes-requires-11 : tie.Need-takes-requires-11
-takes-requires-11 c κs = search needs
-
-enum-told-12 : tie.Need-enum-told-12
-enum-told-12 c = search needs
-
-takes-requires-12 : tie.Need-takes-requires-12
-takes-requires-12 c κs = search needs
-
-enum-told-13 : tie.Need-enum-told-13
-enum-told-13 c = search needs
-
-takes-requires-13 : tie.Need-takes-requires-13
-takes-requires-13 c κs = search needs
-
-enum-told-14 : tie.Need-enum-told-14
-enum-told-14 c = search needs
-
-takes-requires-14 : tie.Need-takes-requires-14
-takes-requires-14 c κs = search needs
-
 returns : tie.Need-returns
 returns c = c .takes .ensures ∙ ap shapeOf (sym (c .before .enum-told .given .1))
 
@@ -135,34 +51,34 @@ pub shape-of-spec : {M : Type 1} → statement M
 shape-of-spec =
     tie.close
     (tie.spec
-    enum-told
-    takes-requires
-    enum-told-2
-    takes-requires-2
-    enum-told-3
-    takes-requires-3
-    enum-told-4
-    takes-requires-4
-    enum-told-5
-    takes-requires-5
-    enum-told-6
-    takes-requires-6
-    enum-told-7
-    takes-requires-7
-    enum-told-8
-    takes-requires-8
-    enum-told-9
-    takes-requires-9
-    enum-told-10
-    takes-requires-10
-    enum-told-11
-    takes-requires-11
-    enum-told-12
-    takes-requires-12
-    enum-told-13
-    takes-requires-13
-    enum-told-14
-    takes-requires-14
+    (λ c. search needs)
+    (λ c κs. search needs)
+    (λ c. search needs)
+    (λ c κs. search needs)
+    (λ c. search needs)
+    (λ c κs. search needs)
+    (λ c. search needs)
+    (λ c κs. search needs)
+    (λ c. search needs)
+    (λ c κs. search needs)
+    (λ c. search needs)
+    (λ c κs. search needs)
+    (λ c. search needs)
+    (λ c κs. search needs)
+    (λ c. search needs)
+    (λ c κs. search needs)
+    (λ c. search needs)
+    (λ c κs. search needs)
+    (λ c. search needs)
+    (λ c κs. search needs)
+    (λ c. search needs)
+    (λ c κs. search needs)
+    (λ c. search needs)
+    (λ c κs. search needs)
+    (λ c. search needs)
+    (λ c κs. search needs)
+    (λ c. search needs)
+    (λ c κs. search needs)
     returns
     returns-2
     returns-3

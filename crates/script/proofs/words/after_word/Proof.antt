@@ -12,20 +12,11 @@ use borrow.Author.Needs.{needs}
 use Rattle.script.proofs.words.after_word.Statement.{statement}
 use Rattle.script.proofs.words.after_word.Tie as tie
 
-trim-requires : tie.Need-trim-requires
-trim-requires c κs = search needs
-
-first-blank-requires : tie.Need-first-blank-requires
-first-blank-requires c κs = search needs
-
 sub-result : tie.Need-sub-result
 sub-result c = omega (arith, c .first-blank .ensures, firstAt-le isBlank (now (c .before .trim .result)))
 
 part-result-start : tie.Need-part-result-start
 part-result-start c = omega (arith, c .first-blank .ensures, firstAt-le isBlank (now (c .before .trim .result)))
-
-part-result-end : tie.Need-part-result-end
-part-result-end c = search needs
 
 returns : tie.Need-returns
 unfolding afterWord
@@ -35,9 +26,9 @@ pub after-word-spec : {M : Type 1} → statement M
 after-word-spec =
     tie.close
     (tie.spec
-    trim-requires
-    first-blank-requires
+    (λ c κs. search needs)
+    (λ c κs. search needs)
     sub-result
     part-result-start
-    part-result-end
+    (λ c. search needs)
     returns)

@@ -12,12 +12,6 @@ use borrow.Author.Needs.{needs}
 use Rattle.script.proofs.words.first_word.Statement.{statement}
 use Rattle.script.proofs.words.first_word.Tie as tie
 
-trim-requires : tie.Need-trim-requires
-trim-requires c κs = search needs
-
-first-blank-requires : tie.Need-first-blank-requires
-first-blank-requires c κs = search needs
-
 slice-aggregate-result : tie.Need-slice-aggregate-result
 slice-aggregate-result c = sym (length-take-le _ _ (omega (arith, c .before .first-blank .ensures, firstAt-le isBlank (now (c .before .before .trim .result)))))
 
@@ -26,5 +20,4 @@ unfolding firstWord
 returns c = let t = c .before .before .trim in ap (λ (k : ℕ). take k (now (t .result))) (c .before .first-blank .ensures) ∙ ap (λ (x : Bytes). take (firstAt isBlank x) x) (t .ensures)
 
 pub first-word-spec : {M : Type 1} → statement M
-first-word-spec =
-    tie.close (tie.spec trim-requires first-blank-requires slice-aggregate-result returns)
+first-word-spec = tie.close (tie.spec (λ c κs. search needs) (λ c κs. search needs) slice-aggregate-result returns)

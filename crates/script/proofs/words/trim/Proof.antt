@@ -11,22 +11,15 @@ use borrow.Author.Needs.{needs}
 use Rattle.script.proofs.words.trim.Statement.{statement}
 use Rattle.script.proofs.words.trim.Tie as tie
 
-first-ink-requires : tie.Need-first-ink-requires
-first-ink-requires c κs = search needs
-
 sub-result : tie.Need-sub-result
 sub-result c = omega (arith, c .first-ink .ensures, firstAt-le isInk (now (c .before .before .args .s)))
 
 part-result-start : tie.Need-part-result-start
 part-result-start c = omega (arith, c .first-ink .ensures, firstAt-le isInk (now (c .before .before .args .s)))
 
-part-result-end : tie.Need-part-result-end
-part-result-end c = search needs
-
 returns : tie.Need-returns
 unfolding trimmed
 returns c = let s = now (c .before .before .before .args .s) in part-to-end s _ ∙ ap (λ (k : ℕ). drop k s) (c .before .first-ink .ensures)
 
 pub trim-spec : {M : Type 1} → statement M
-trim-spec =
-    tie.close (tie.spec first-ink-requires sub-result part-result-start part-result-end returns)
+trim-spec = tie.close (tie.spec (λ c κs. search needs) sub-result part-result-start (λ c. search needs) returns)

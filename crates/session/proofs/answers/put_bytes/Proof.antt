@@ -12,21 +12,15 @@ use borrow.Author.Needs.{needs}
 use Rattle.session.proofs.answers.put_bytes.Statement.{statement}
 use Rattle.session.proofs.answers.put_bytes.Tie as tie
 
-slice-aggregate-put : tie.Need-slice-aggregate-put
-slice-aggregate-put c = search needs
-
-put-requires : tie.Need-put-requires
-put-requires c κs = search needs
-
-put-hex-requires : tie.Need-put-hex-requires
-put-hex-requires c κs = search needs
-
-same-length : tie.Need-same-length
-same-length c = search needs
-
 returns : tie.Need-returns
 returns c = let s = c .before .before .before .before .before .before .before .before .before .before .before .args in begun (now (s .out)) _ _ (text "ok " ++ toHex (now (s .s))) (omega (arith, length-append (text "ok ") (toHex (now (s .s))), toHex-length (now (s .s)), c .before .before .before .before .before .before .before .before .before .before .before .pre)) (then-sets (now (s .out)) (c .before .before .before .before .before .before .put .last .0) _ 0 _ _ (text "ok ") (toHex (now (s .s))) (c .before .before .before .before .before .before .put .ensures .0) (c .before .before .before .before .before .before .put .ensures .1) (c .before .before .put-hex .ensures .0) (c .before .before .put-hex .ensures .1))
 
 pub put-bytes-spec : {M : Type 1} → statement M
 put-bytes-spec =
-    tie.close (tie.spec slice-aggregate-put put-requires put-hex-requires same-length returns)
+    tie.close
+    (tie.spec
+    (λ c. search needs)
+    (λ c κs. search needs)
+    (λ c κs. search needs)
+    (λ c. search needs)
+    returns)

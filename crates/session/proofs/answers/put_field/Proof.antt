@@ -9,21 +9,18 @@ use borrow.Author.Needs.{needs}
 use Rattle.session.proofs.answers.put_field.Statement.{statement}
 use Rattle.session.proofs.answers.put_field.Tie as tie
 
-put-decimal-requires : tie.Need-put-decimal-requires
-put-decimal-requires c κs = search needs
-
-slice-aggregate-put : tie.Need-slice-aggregate-put
-slice-aggregate-put c = search needs
-
 put-requires : tie.Need-put-requires
 put-requires c κs = omega (arith, c .before .before .before .before .put-decimal .ensures .0, decimal-length (c .before .before .before .before .before .before .before .args .n), c .before .before .before .before .before .before .before .pre)
-
-same-length : tie.Need-same-length
-same-length c = search needs
 
 returns : tie.Need-returns
 returns c = let s = c .before .before .before .before .before .before .before .before .before .before .args in (then-sets (now (s .out)) (c .before .before .before .before .before .before .before .put-decimal .last .0) _ (s .at) _ _ (decimal (s .n)) (text " ") (c .before .before .before .before .before .before .before .put-decimal .ensures .0) (c .before .before .before .before .before .before .before .put-decimal .ensures .1) (c .before .before .put .ensures .0) (c .before .before .put .ensures .1))
 
 pub put-field-spec : {M : Type 1} → statement M
 put-field-spec =
-    tie.close (tie.spec put-decimal-requires slice-aggregate-put put-requires same-length returns)
+    tie.close
+    (tie.spec
+    (λ c κs. search needs)
+    (λ c. search needs)
+    put-requires
+    (λ c. search needs)
+    returns)

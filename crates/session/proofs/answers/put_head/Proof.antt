@@ -13,26 +13,14 @@ use borrow.Author.Needs.{needs}
 use Rattle.session.proofs.answers.put_head.Statement.{statement}
 use Rattle.session.proofs.answers.put_head.Tie as tie
 
-slice-aggregate-put : tie.Need-slice-aggregate-put
-slice-aggregate-put c = search needs
-
-put-requires : tie.Need-put-requires
-put-requires c κs = search needs
-
 put-field-requires : tie.Need-put-field-requires
 put-field-requires c κs = omega (arith, c .before .before .before .put .ensures .0, c .before .before .before .before .before .before .before .before .before .pre)
 
 put-field-requires-2 : tie.Need-put-field-requires-2
 put-field-requires-2 c κs = omega (arith, c .before .before .before .put-field .ensures .0, field-length (c .before .before .before .before .before .before .before .before .before .before .before .before .before .args .s .parent .0), c .before .before .before .before .before .before .before .put .ensures .0, c .before .before .before .before .before .before .before .before .before .before .before .before .before .pre)
 
-wide-requires : tie.Need-wide-requires
-wide-requires c κs = search needs
-
 put-field-requires-3 : tie.Need-put-field-requires-3
 put-field-requires-3 c κs = omega (arith, c .before .before .before .before .put-field2 .ensures .0, field-length (c .before .before .before .before .before .before .before .before .before .before .before .before .before .before .before .before .before .before .args .s .inode .0), c .before .before .before .before .before .before .before .before .put-field .ensures .0, field-length (c .before .before .before .before .before .before .before .before .before .before .before .before .before .before .before .before .before .before .args .s .parent .0), c .before .before .before .before .before .before .before .before .before .before .before .before .put .ensures .0, c .before .before .before .before .before .before .before .before .before .before .before .before .before .before .before .before .before .before .pre)
-
-same-length : tie.Need-same-length
-same-length c = search needs
 
 returns : tie.Need-returns
 returns c =
@@ -45,11 +33,11 @@ pub put-head-spec : {M : Type 1} → statement M
 put-head-spec =
     tie.close
     (tie.spec
-    slice-aggregate-put
-    put-requires
+    (λ c. search needs)
+    (λ c κs. search needs)
     put-field-requires
     put-field-requires-2
-    wide-requires
+    (λ c κs. search needs)
     put-field-requires-3
-    same-length
+    (λ c. search needs)
     returns)

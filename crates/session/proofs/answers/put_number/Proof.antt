@@ -12,21 +12,15 @@ use borrow.Author.Needs.{needs}
 use Rattle.session.proofs.answers.put_number.Statement.{statement}
 use Rattle.session.proofs.answers.put_number.Tie as tie
 
-slice-aggregate-put : tie.Need-slice-aggregate-put
-slice-aggregate-put c = search needs
-
-put-requires : tie.Need-put-requires
-put-requires c κs = search needs
-
-put-decimal-requires : tie.Need-put-decimal-requires
-put-decimal-requires c κs = search needs
-
-same-length : tie.Need-same-length
-same-length c = search needs
-
 returns : tie.Need-returns
 returns c = let s = c .before .before .before .before .before .before .before .before .before .before .args in begun (now (s .out)) _ _ (text "ok " ++ decimal (s .entry)) (omega (arith, length-append (text "ok ") (decimal (s .entry)), decimal-length (s .entry), c .before .before .before .before .before .before .before .before .before .before .pre)) (then-sets (now (s .out)) (c .before .before .before .before .before .before .put .last .0) _ 0 _ _ (text "ok ") (decimal (s .entry)) (c .before .before .before .before .before .before .put .ensures .0) (c .before .before .before .before .before .before .put .ensures .1) (c .before .before .put-decimal .ensures .0) (c .before .before .put-decimal .ensures .1))
 
 pub put-number-spec : {M : Type 1} → statement M
 put-number-spec =
-    tie.close (tie.spec slice-aggregate-put put-requires put-decimal-requires same-length returns)
+    tie.close
+    (tie.spec
+    (λ c. search needs)
+    (λ c κs. search needs)
+    (λ c κs. search needs)
+    (λ c. search needs)
+    returns)

@@ -12,26 +12,11 @@ use borrow.Author.Needs.{needs}
 use Rattle.session.proofs.answers.put_numbers.Statement.{statement}
 use Rattle.session.proofs.answers.put_numbers.Tie as tie
 
-slice-aggregate-put : tie.Need-slice-aggregate-put
-slice-aggregate-put c = search needs
-
-put-requires : tie.Need-put-requires
-put-requires c κs = search needs
-
-put-decimal-requires : tie.Need-put-decimal-requires
-put-decimal-requires c κs = search needs
-
-slice-aggregate-put-2 : tie.Need-slice-aggregate-put-2
-slice-aggregate-put-2 c = search needs
-
 put-requires-2 : tie.Need-put-requires-2
 put-requires-2 c κs = omega (arith, c .before .before .before .before .put-decimal .ensures .0, decimal-length (c .before .before .before .before .before .before .before .before .before .before .before .before .args .inode), c .before .before .before .before .before .before .before .before .put .ensures .0, c .before .before .before .before .before .before .before .before .before .before .before .before .pre)
 
 put-decimal-requires-2 : tie.Need-put-decimal-requires-2
 put-decimal-requires-2 c κs = omega (arith, c .before .before .before .put2 .ensures .0, c .before .before .before .before .before .before .before .before .put-decimal .ensures .0, decimal-length (c .before .before .before .before .before .before .before .before .before .before .before .before .before .before .before .before .args .inode), c .before .before .before .before .before .before .before .before .before .before .before .before .put .ensures .0, c .before .before .before .before .before .before .before .before .before .before .before .before .before .before .before .before .pre)
-
-same-length : tie.Need-same-length
-same-length c = search needs
 
 returns : tie.Need-returns
 returns c =
@@ -44,11 +29,11 @@ pub put-numbers-spec : {M : Type 1} → statement M
 put-numbers-spec =
     tie.close
     (tie.spec
-    slice-aggregate-put
-    put-requires
-    put-decimal-requires
-    slice-aggregate-put-2
+    (λ c. search needs)
+    (λ c κs. search needs)
+    (λ c κs. search needs)
+    (λ c. search needs)
     put-requires-2
     put-decimal-requires-2
-    same-length
+    (λ c. search needs)
     returns)

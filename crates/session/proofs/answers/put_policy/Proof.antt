@@ -10,30 +10,9 @@ use borrow.Author.Needs.{needs}
 use Rattle.session.proofs.answers.put_policy.Statement.{statement}
 use Rattle.session.proofs.answers.put_policy.Tie as tie
 
-enum-told : tie.Need-enum-told
-enum-told c = search needs
-
-slice-aggregate-put-bytes : tie.Need-slice-aggregate-put-bytes
-slice-aggregate-put-bytes c = search needs
-
-put-bytes-requires : tie.Need-put-bytes-requires
-put-bytes-requires c κs = search needs
-
-enum-known-a : tie.Need-enum-known-a
-enum-known-a c = search needs
-
-put-refusal-requires : tie.Need-put-refusal-requires
-put-refusal-requires c κs = search needs
-
-same-length : tie.Need-same-length
-same-length c = search needs
-
 returns : tie.Need-returns
 unfolding answerText
 returns c = rewritten _ _ _ _ _ (c .before .before .put-bytes .ensures) (ap (λ (x : Reply). answerText false (policyAnswered x (c .before .before .before .before .before .before .before .before .args .t3)) []) (sym (c .before .before .before .before .before .enum-told .given .1)))
-
-same-length-2 : tie.Need-same-length-2
-same-length-2 c = search needs
 
 returns-2 : tie.Need-returns-2
 unfolding answerText
@@ -43,12 +22,12 @@ pub put-policy-spec : {M : Type 1} → statement M
 put-policy-spec =
     tie.close
     (tie.spec
-    enum-told
-    slice-aggregate-put-bytes
-    put-bytes-requires
-    enum-known-a
-    put-refusal-requires
-    same-length
+    (λ c. search needs)
+    (λ c. search needs)
+    (λ c κs. search needs)
+    (λ c. search needs)
+    (λ c κs. search needs)
+    (λ c. search needs)
     returns
-    same-length-2
+    (λ c. search needs)
     returns-2)

@@ -13,30 +13,9 @@ use borrow.Author.Needs.{needs}
 use Rattle.session.proofs.answers.put_reply.Statement.{statement}
 use Rattle.session.proofs.answers.put_reply.Tie as tie
 
-enum-told : tie.Need-enum-told
-enum-told c = search needs
-
-slice-aggregate-put : tie.Need-slice-aggregate-put
-slice-aggregate-put c = search needs
-
-put-requires : tie.Need-put-requires
-put-requires c κs = search needs
-
-enum-known-a : tie.Need-enum-known-a
-enum-known-a c = search needs
-
-put-refusal-requires : tie.Need-put-refusal-requires
-put-refusal-requires c κs = search needs
-
-same-length : tie.Need-same-length
-same-length c = search needs
-
 returns : tie.Need-returns
 unfolding answerText
 returns c = rewritten _ _ _ (text "ok") _ (begun (now (c .before .before .before .before .before .before .before .before .args .out)) (c .before .before .put .last .0) _ (text "ok") (omega (arith, c .before .before .before .before .before .before .before .before .pre)) (c .before .before .put .ensures)) (ap (λ (x : Reply). answerText false (replied x) []) (sym (c .before .before .before .before .before .enum-told .given .1)))
-
-same-length-2 : tie.Need-same-length-2
-same-length-2 c = search needs
 
 returns-2 : tie.Need-returns-2
 unfolding answerText
@@ -46,12 +25,12 @@ pub put-reply-spec : {M : Type 1} → statement M
 put-reply-spec =
     tie.close
     (tie.spec
-    enum-told
-    slice-aggregate-put
-    put-requires
-    enum-known-a
-    put-refusal-requires
-    same-length
+    (λ c. search needs)
+    (λ c. search needs)
+    (λ c κs. search needs)
+    (λ c. search needs)
+    (λ c κs. search needs)
+    (λ c. search needs)
     returns
-    same-length-2
+    (λ c. search needs)
     returns-2)

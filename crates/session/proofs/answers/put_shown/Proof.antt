@@ -10,27 +10,9 @@ use borrow.Author.Needs.{needs}
 use Rattle.session.proofs.answers.put_shown.Statement.{statement}
 use Rattle.session.proofs.answers.put_shown.Tie as tie
 
-enum-known-a : tie.Need-enum-known-a
-enum-known-a c = search needs
-
-put-shown-entry-requires : tie.Need-put-shown-entry-requires
-put-shown-entry-requires c κs = search needs
-
-enum-known-a-2 : tie.Need-enum-known-a-2
-enum-known-a-2 c = search needs
-
-put-refusal-requires : tie.Need-put-refusal-requires
-put-refusal-requires c κs = search needs
-
-same-length : tie.Need-same-length
-same-length c = search needs
-
 returns : tie.Need-returns
 unfolding answerText
 returns c = rewritten _ _ _ _ _ (c .before .before .put-shown-entry .ensures) (ap (λ (x : ShowAnswer). answerText false (showAnswered x) (now (c .before .before .before .before .before .before .before .before .before .args .buffer))) (sym (c .before .before .before .before .before .a .given .1)))
-
-same-length-2 : tie.Need-same-length-2
-same-length-2 c = search needs
 
 returns-2 : tie.Need-returns-2
 unfolding answerText
@@ -40,11 +22,11 @@ pub put-shown-spec : {M : Type 1} → statement M
 put-shown-spec =
     tie.close
     (tie.spec
-    enum-known-a
-    put-shown-entry-requires
-    enum-known-a-2
-    put-refusal-requires
-    same-length
+    (λ c. search needs)
+    (λ c κs. search needs)
+    (λ c. search needs)
+    (λ c κs. search needs)
+    (λ c. search needs)
     returns
-    same-length-2
+    (λ c. search needs)
     returns-2)

@@ -12,23 +12,11 @@ use borrow.Author.Needs.{needs}
 use Rattle.session.proofs.answers.put_shown_entry.Statement.{statement}
 use Rattle.session.proofs.answers.put_shown_entry.Tie as tie
 
-count-requires : tie.Need-count-requires
-count-requires c κs = search needs
-
-least-requires : tie.Need-least-requires
-least-requires c κs = search needs
-
-put-head-requires : tie.Need-put-head-requires
-put-head-requires c κs = search needs
-
 slice-aggregate-put-tail : tie.Need-slice-aggregate-put-tail
 slice-aggregate-put-tail c = sym (length-take-le _ (now (c .before .before .before .before .before .before .before .before .before .before .args .buffer)) (omega (arith, c .before .before .before .before .before .before .least .ensures)))
 
 put-tail-requires : tie.Need-put-tail-requires
 put-tail-requires c κs = omega (arith, c .before .before .before .before .put-head .ensures .0, head-length (c .before .before .before .before .before .before .before .before .before .before .args .s), length-take (c .before .before .before .before .before .before .least .result) (now (c .before .before .before .before .before .before .before .before .before .before .args .buffer)), c .before .before .before .before .before .before .least .ensures, c .before .before .before .before .before .before .before .count .ensures, c .before .before .before .before .before .before .before .before .before .before .pre)
-
-same-length : tie.Need-same-length
-same-length c = search needs
 
 returns : tie.Need-returns
 unfolding shownText
@@ -41,10 +29,10 @@ pub put-shown-entry-spec : {M : Type 1} → statement M
 put-shown-entry-spec =
     tie.close
     (tie.spec
-    count-requires
-    least-requires
-    put-head-requires
+    (λ c κs. search needs)
+    (λ c κs. search needs)
+    (λ c κs. search needs)
     slice-aggregate-put-tail
     put-tail-requires
-    same-length
+    (λ c. search needs)
     returns)

@@ -13,26 +13,14 @@ use borrow.Author.Needs.{needs}
 use Rattle.session.proofs.answers.put_tail.Statement.{statement}
 use Rattle.session.proofs.answers.put_tail.Tie as tie
 
-put-form-requires : tie.Need-put-form-requires
-put-form-requires c κs = search needs
-
-slice-aggregate-put : tie.Need-slice-aggregate-put
-slice-aggregate-put c = search needs
-
 put-requires : tie.Need-put-requires
 put-requires c κs = omega (arith, c .before .before .before .before .put-form .ensures .0, form-length (c .before .before .before .before .before .before .before .before .args .s .form), c .before .before .before .before .before .before .before .before .pre)
-
-wide-requires : tie.Need-wide-requires
-wide-requires c κs = search needs
 
 put-field-requires : tie.Need-put-field-requires
 put-field-requires c κs = omega (arith, c .before .before .before .before .put .ensures .0, c .before .before .before .before .before .before .before .before .before .put-form .ensures .0, form-length (c .before .before .before .before .before .before .before .before .before .before .before .before .before .args .s .form), c .before .before .before .before .before .before .before .before .before .before .before .before .before .pre)
 
 put-name-requires : tie.Need-put-name-requires
 put-name-requires c κs = omega (arith, c .before .before .before .put-field .ensures .0, field-length (c .before .before .before .before .wide .result), c .before .before .before .before .before .before .before .before .put .ensures .0, c .before .before .before .before .before .before .before .before .before .before .before .before .before .put-form .ensures .0, form-length (c .before .before .before .before .before .before .before .before .before .before .before .before .before .before .before .before .before .args .s .form), c .before .before .before .before .before .before .before .before .before .before .before .before .before .before .before .before .before .pre)
-
-same-length : tie.Need-same-length
-same-length c = search needs
 
 returns : tie.Need-returns
 returns c =
@@ -45,11 +33,11 @@ pub put-tail-spec : {M : Type 1} → statement M
 put-tail-spec =
     tie.close
     (tie.spec
-    put-form-requires
-    slice-aggregate-put
+    (λ c κs. search needs)
+    (λ c. search needs)
     put-requires
-    wide-requires
+    (λ c κs. search needs)
     put-field-requires
     put-name-requires
-    same-length
+    (λ c. search needs)
     returns)

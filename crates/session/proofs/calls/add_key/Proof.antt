@@ -6,18 +6,9 @@ use borrow.Author.Needs.{needs}
 use Rattle.session.proofs.calls.add_key.Statement.{statement}
 use Rattle.session.proofs.calls.add_key.Tie as tie
 
-add-key-requires : tie.Need-add-key-requires
-add-key-requires c κs = search needs
-
-changed-requires : tie.Need-changed-requires
-changed-requires c κs = search needs
-
-same-length : tie.Need-same-length
-same-length c = search needs
-
 returns : tie.Need-returns
 unfolding respond
 returns c = changed-says (now (c .before .before .before .before .before .before .before .before .args .out)) _ _ _ _ (c .before .before .before .before .add-key .result) _ (c .before .before .before .before .add-key .ensures) (c .before .before .changed .ensures)
 
 pub add-key-spec : {M : Type 1} → statement M
-add-key-spec = tie.close (tie.spec add-key-requires changed-requires same-length returns)
+add-key-spec = tie.close (tie.spec (λ c κs. search needs) (λ c κs. search needs) (λ c. search needs) returns)

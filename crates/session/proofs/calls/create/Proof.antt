@@ -10,18 +10,9 @@ use borrow.Author.Needs.{needs}
 use Rattle.session.proofs.calls.create.Statement.{statement}
 use Rattle.session.proofs.calls.create.Tie as tie
 
-create-requires : tie.Need-create-requires
-create-requires c κs = search needs
-
-put-created-requires : tie.Need-put-created-requires
-put-created-requires c κs = search needs
-
-same-length : tie.Need-same-length
-same-length c = search needs
-
 returns : tie.Need-returns
 unfolding respond
 returns c = says (now (c .before .before .before .before .before .before .before .before .before .args .out)) _ _ _ _ false (createAnswered (c .before .before .before .before .before .create .result .answer)) [] _ (c .before .before .before .before .before .create .ensures) refl (c .before .before .put-created .ensures)
 
 pub create-spec : {M : Type 1} → statement M
-create-spec = tie.close (tie.spec create-requires put-created-requires same-length returns)
+create-spec = tie.close (tie.spec (λ c κs. search needs) (λ c κs. search needs) (λ c. search needs) returns)

@@ -10,18 +10,9 @@ use borrow.Author.Needs.{needs}
 use Rattle.session.proofs.calls.find.Statement.{statement}
 use Rattle.session.proofs.calls.find.Tie as tie
 
-find-requires : tie.Need-find-requires
-find-requires c κs = search needs
-
-put-entry-requires : tie.Need-put-entry-requires
-put-entry-requires c κs = search needs
-
-same-length : tie.Need-same-length
-same-length c = search needs
-
 returns : tie.Need-returns
 unfolding respond
 returns c = says (now (c .before .before .before .before .before .before .before .args .out)) _ _ _ _ false (entryAnswered (c .before .before .before .find .result)) [] _ (c .before .before .before .find .ensures) refl (c .before .before .put-entry .ensures)
 
 pub find-spec : {M : Type 1} → statement M
-find-spec = tie.close (tie.spec find-requires put-entry-requires same-length returns)
+find-spec = tie.close (tie.spec (λ c κs. search needs) (λ c κs. search needs) (λ c. search needs) returns)

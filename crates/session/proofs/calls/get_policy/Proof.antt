@@ -10,18 +10,9 @@ use borrow.Author.Needs.{needs}
 use Rattle.session.proofs.calls.get_policy.Statement.{statement}
 use Rattle.session.proofs.calls.get_policy.Tie as tie
 
-get-policy-requires : tie.Need-get-policy-requires
-get-policy-requires c κs = search needs
-
-put-policy-requires : tie.Need-put-policy-requires
-put-policy-requires c κs = search needs
-
-same-length : tie.Need-same-length
-same-length c = search needs
-
 returns : tie.Need-returns
 unfolding respond
 returns c = says (now (c .before .before .before .before .before .before .before .before .args .out)) _ _ _ _ false (policyAnswered (c .before .before .before .before .before .get-policy .result .answer) (c .before .before .before .before .before .get-policy .result .policy)) [] _ (c .before .before .before .before .before .get-policy .ensures .0) refl (c .before .before .put-policy .ensures)
 
 pub get-policy-spec : {M : Type 1} → statement M
-get-policy-spec = tie.close (tie.spec get-policy-requires put-policy-requires same-length returns)
+get-policy-spec = tie.close (tie.spec (λ c κs. search needs) (λ c κs. search needs) (λ c. search needs) returns)

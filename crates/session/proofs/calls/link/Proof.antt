@@ -10,18 +10,9 @@ use borrow.Author.Needs.{needs}
 use Rattle.session.proofs.calls.link.Statement.{statement}
 use Rattle.session.proofs.calls.link.Tie as tie
 
-link-requires : tie.Need-link-requires
-link-requires c κs = search needs
-
-put-entry-requires : tie.Need-put-entry-requires
-put-entry-requires c κs = search needs
-
-same-length : tie.Need-same-length
-same-length c = search needs
-
 returns : tie.Need-returns
 unfolding respond
 returns c = says (now (c .before .before .before .before .before .before .before .before .args .out)) _ _ _ _ false (entryAnswered (c .before .before .before .before .before .link .result .answer)) [] _ (c .before .before .before .before .before .link .ensures) refl (c .before .before .put-entry .ensures)
 
 pub link-spec : {M : Type 1} → statement M
-link-spec = tie.close (tie.spec link-requires put-entry-requires same-length returns)
+link-spec = tie.close (tie.spec (λ c κs. search needs) (λ c κs. search needs) (λ c. search needs) returns)

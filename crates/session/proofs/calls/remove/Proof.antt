@@ -6,18 +6,9 @@ use borrow.Author.Needs.{needs}
 use Rattle.session.proofs.calls.remove.Statement.{statement}
 use Rattle.session.proofs.calls.remove.Tie as tie
 
-remove-requires : tie.Need-remove-requires
-remove-requires c κs = search needs
-
-changed-requires : tie.Need-changed-requires
-changed-requires c κs = search needs
-
-same-length : tie.Need-same-length
-same-length c = search needs
-
 returns : tie.Need-returns
 unfolding respond
 returns c = changed-says (now (c .before .before .before .before .before .before .before .args .out)) _ _ _ _ (c .before .before .before .before .remove .result) _ (c .before .before .before .before .remove .ensures) (c .before .before .changed .ensures)
 
 pub remove-spec : {M : Type 1} → statement M
-remove-spec = tie.close (tie.spec remove-requires changed-requires same-length returns)
+remove-spec = tie.close (tie.spec (λ c κs. search needs) (λ c κs. search needs) (λ c. search needs) returns)

@@ -5,20 +5,8 @@ use borrow.Author.Needs.{needs}
 use Rattle.session.proofs.calls.show.Statement.{statement}
 use Rattle.session.proofs.calls.show.Tie as tie
 
-malformed-line-requires : tie.Need-malformed-line-requires
-malformed-line-requires c κs = search needs
-
-same-length : tie.Need-same-length
-same-length c = search needs
-
 returns : tie.Need-returns
 returns c = same-said (now (c .before .before .before .before .before .before .before .before .args .out)) _ _ _ _ _ (c .before .before .malformed-line .ensures) (shows-not _ _ _ (c .before .before .before .before .if1 .taken))
-
-show-sized-requires : tie.Need-show-sized-requires
-show-sized-requires c κs = search needs
-
-same-length-2 : tie.Need-same-length-2
-same-length-2 c = search needs
 
 returns-2 : tie.Need-returns-2
 returns-2 c = same-said (now (c .before .before .before .before .before .before .before .before .args .out)) _ _ _ _ _ (c .before .before .show-sized .ensures) (shows _ _ _ (c .before .before .before .before .if1 .left))
@@ -27,9 +15,9 @@ pub show-spec : {M : Type 1} → statement M
 show-spec =
     tie.close
     (tie.spec
-    malformed-line-requires
-    same-length
+    (λ c κs. search needs)
+    (λ c. search needs)
     returns
-    show-sized-requires
-    same-length-2
+    (λ c κs. search needs)
+    (λ c. search needs)
     returns-2)

@@ -17,20 +17,8 @@ use borrow.Author.Needs.{needs}
 use Rattle.session.proofs.calls.show_sized.Statement.{statement}
 use Rattle.session.proofs.calls.show_sized.Tie as tie
 
-name-buffer-requires : tie.Need-name-buffer-requires
-name-buffer-requires c κs = search needs
-
-array-borrow-prefix-buffer : tie.Need-array-borrow-prefix-buffer
-array-borrow-prefix-buffer c = search needs
-
 slice-aggregate-show-in : tie.Need-slice-aggregate-show-in
 slice-aggregate-show-in c = sym (length-take-le _ _ (omega (arith, ap length (c .before .name-buffer .ensures), length-zeros 4096, c .before .before .before .pre .1)))
-
-show-in-requires : tie.Need-show-in-requires
-show-in-requires c κs = search needs
-
-same-length : tie.Need-same-length
-same-length c = search needs
 
 returns : tie.Need-returns
 returns c =
@@ -41,9 +29,9 @@ pub show-sized-spec : {M : Type 1} → statement M
 show-sized-spec =
     tie.close
     (tie.spec
-    name-buffer-requires
-    array-borrow-prefix-buffer
+    (λ c κs. search needs)
+    (λ c. search needs)
     slice-aggregate-show-in
-    show-in-requires
-    same-length
+    (λ c κs. search needs)
+    (λ c. search needs)
     returns)

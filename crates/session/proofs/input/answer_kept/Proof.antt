@@ -15,12 +15,6 @@ slice-aggregate-answer-line c = sym (length-take-le _ _ (c .before .before .befo
 answer-line-requires : tie.Need-answer-line-requires
 answer-line-requires c κs = let s = c .before .before .before .before .before .before in (omega (arith, length-take (s .args .used) (now (s .args .line)), s .pre .0, s .pre .2), omega (arith, s .pre .3))
 
-same-length : tie.Need-same-length
-same-length c = search needs
-
-same-length-2 : tie.Need-same-length-2
-same-length-2 c = search needs
-
 returns : tie.Need-returns
 returns c =
     let s = c .before .before .before .before .before .before .before .before .before .before .before in
@@ -30,4 +24,9 @@ returns c =
 pub answer-kept-spec : {M : Type 1} → statement M
 answer-kept-spec =
     tie.close
-    (tie.spec slice-aggregate-answer-line answer-line-requires same-length same-length-2 returns)
+    (tie.spec
+    slice-aggregate-answer-line
+    answer-line-requires
+    (λ c. search needs)
+    (λ c. search needs)
+    returns)

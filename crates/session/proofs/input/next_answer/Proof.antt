@@ -9,12 +9,6 @@ use borrow.Author.Needs.{needs}
 use Rattle.session.proofs.input.next_answer.Statement.{statement}
 use Rattle.session.proofs.input.next_answer.Tie as tie
 
-take-line-requires : tie.Need-take-line-requires
-take-line-requires c κs = search needs
-
-same-length : tie.Need-same-length
-same-length c = search needs
-
 returns : tie.Need-returns
 returns c =
     let s = c .before .before .before .before .before .before .before .before .before .before .before .args in
@@ -22,18 +16,6 @@ returns c =
     let h : length (t .last .0) ≡ length (now (s .line)) = omega (arith, t .kept .0) in
     let g = sym (t .ensures .3) ∙ not-true _ (c .if1 .taken) in
     (t .ensures .0, t .ensures .2, omega arith, feeds-on (now (s .line)) (t .last .0) (s .p .volume) (s .p .used) (t .result .used) (now (s .bytes)) h (t .ensures .1) (t .result .taken) (t .ensures .2) g, says-on (now (s .line)) (t .last .0) (s .p .volume) (s .p .used) (t .result .used) (now (s .bytes)) h (t .ensures .1) (t .result .taken) (t .ensures .2) g)
-
-answer-kept-requires : tie.Need-answer-kept-requires
-answer-kept-requires c κs = search needs
-
-same-length-2 : tie.Need-same-length-2
-same-length-2 c = search needs
-
-same-length-3 : tie.Need-same-length-3
-same-length-3 c = search needs
-
-same-length-4 : tie.Need-same-length-4
-same-length-4 c = search needs
 
 returns-2 : tie.Need-returns-2
 returns-2 c =
@@ -48,11 +30,11 @@ pub next-answer-spec : {M : Type 1} → statement M
 next-answer-spec =
     tie.close
     (tie.spec
-    take-line-requires
-    same-length
+    (λ c κs. search needs)
+    (λ c. search needs)
     returns
-    answer-kept-requires
-    same-length-2
-    same-length-3
-    same-length-4
+    (λ c κs. search needs)
+    (λ c. search needs)
+    (λ c. search needs)
+    (λ c. search needs)
     returns-2)

@@ -19,29 +19,11 @@ abbrev μ-loop : tie.MeasureT-loop
 loop-holds : tie.Need-loop-holds Inv-loop μ-loop
 loop-holds c = let s = c .before .before .before .before in (search needs, s .pre .0, s .pre .1, refl, refl, refl, s .pre .2, s .pre .3, feeds-none (now (s .args .line)) (s .args .start .volume) (s .args .start .used) (now (s .args .chunk)))
 
-sub-next-answer : tie.Need-sub-next-answer Inv-loop μ-loop
-sub-next-answer c = search needs
-
-part-next-answer-start : tie.Need-part-next-answer-start Inv-loop μ-loop
-part-next-answer-start c = search needs
-
-part-next-answer-end : tie.Need-part-next-answer-end Inv-loop μ-loop
-part-next-answer-end c = search needs
-
-next-answer-requires : tie.Need-next-answer-requires Inv-loop μ-loop
-next-answer-requires c κs = search needs
-
-say-requires : tie.Need-say-requires Inv-loop μ-loop
-say-requires c κs = search needs
-
 add-at : tie.Need-add-at Inv-loop μ-loop
 add-at c =
     let l = c .before .before .before .before .before .before .before .before .before .before .before .before .before .before .before .before .loop in
     let k = now (c .before .before .before .before .before .before .before .before .before .before .before .before .before .before .before .before .before .before .before .before .before .args .chunk) in
     omega (arith, c .before .before .before .before .before .before .before .before .before .before .next-answer .ensures .1, length-take (length k - l .at) (drop (l .at) k), length-drop (l .at) k, c .before .before .before .before .before .before .before .before .before .before .before .before .before .before .before .before .before .before .before .before .before .good .1 .1 .0 .0)
-
-loop-less : tie.Need-loop-less Inv-loop μ-loop
-loop-less c = search needs
 
 loop-again : tie.Need-loop-again Inv-loop μ-loop
 loop-again c =
@@ -60,15 +42,6 @@ loop-again c =
       feeds-more (now (s .line)) (s .start .volume) (s .start .used) k (l .line) (l .p .volume) (l .p .used) (l .at) (l .inv .8) (a .result .taken) (a .last .1 .0) (a .result .volume) (a .result .used) (a .ensures .3),
     )
 
-same-length : tie.Need-same-length Inv-loop μ-loop
-same-length c = search needs
-
-same-length-2 : tie.Need-same-length-2 Inv-loop μ-loop
-same-length-2 c = search needs
-
-same-length-3 : tie.Need-same-length-3 Inv-loop μ-loop
-same-length-3 c = search needs
-
 returns : tie.Need-returns Inv-loop μ-loop
 returns c =
     let l = c .before .loop in
@@ -82,15 +55,15 @@ take-chunk-spec =
     Inv-loop
     μ-loop
     loop-holds
-    sub-next-answer
-    part-next-answer-start
-    part-next-answer-end
-    next-answer-requires
-    say-requires
+    (λ c. search needs)
+    (λ c. search needs)
+    (λ c. search needs)
+    (λ c κs. search needs)
+    (λ c κs. search needs)
     add-at
-    loop-less
+    (λ c. search needs)
     loop-again
-    same-length
-    same-length-2
-    same-length-3
+    (λ c. search needs)
+    (λ c. search needs)
+    (λ c. search needs)
     returns)

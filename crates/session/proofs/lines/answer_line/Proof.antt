@@ -11,29 +11,14 @@ use borrow.Author.Needs.{needs}
 use Rattle.session.proofs.lines.answer_line.Statement.{statement}
 use Rattle.session.proofs.lines.answer_line.Tie as tie
 
-without-return-requires : tie.Need-without-return-requires
-without-return-requires c κs = search needs
-
-is-skipped-requires : tie.Need-is-skipped-requires
-is-skipped-requires c κs = search needs
-
 returns : tie.Need-returns
 returns c = same-answer (now (c .before .before .before .before .before .before .args .out)) 0 _ (saying [] (c .before .before .before .before .before .before .args .v)) _ (refl, refl, omega arith) (skips _ _ _ (c .before .before .without-return .ensures) (sym (c .before .is-skipped .ensures) ∙ c .if1 .taken))
 
 command-requires : tie.Need-command-requires
 command-requires c κs = let s = c .before .before .before .before .before .before .before .before in (omega (arith, s .pre .0, ap length (c .before .before .before .before .without-return .ensures), withoutReturn-length (now (s .args .line))), omega (arith, s .pre .1))
 
-slice-aggregate-put : tie.Need-slice-aggregate-put
-slice-aggregate-put c = search needs
-
 put-requires : tie.Need-put-requires
 put-requires c κs = omega (arith, c .before .before .before .before .before .before .before .command .ensures .1 .0, c .before .before .before .before .before .before .before .command .ensures .1 .2)
-
-same-length : tie.Need-same-length
-same-length c = search needs
-
-same-length-2 : tie.Need-same-length-2
-same-length-2 c = search needs
 
 returns-2 : tie.Need-returns-2
 returns-2 c = same-answer _ _ _ _ _ (then-ended (now (c .before .before .before .before .before .before .before .before .before .before .before .before .before .before .before .before .before .before .before .args .out)) _ _ _ _ _ (commanded (c .before .before .before .before .before .before .before .before .before .before .before .before .before .before .before .before .before .before .before .args .v) (now (c .before .before .before .before .before .before .before .before .before .before .before .before .before .before .before .without-return .result))) (c .before .before .before .before .before .before .before .before .before .before .command .ensures) (c .before .before .put .ensures)) (answers _ _ _ (c .before .before .before .before .before .before .before .before .before .before .before .before .before .before .before .without-return .ensures) (sym (c .before .before .before .before .before .before .before .before .before .before .before .before .before .before .is-skipped .ensures) ∙ c .before .before .before .before .before .before .before .before .before .before .before .before .before .if1 .left))
@@ -42,12 +27,12 @@ pub answer-line-spec : {M : Type 1} → statement M
 answer-line-spec =
     tie.close
     (tie.spec
-    without-return-requires
-    is-skipped-requires
+    (λ c κs. search needs)
+    (λ c κs. search needs)
     returns
     command-requires
-    slice-aggregate-put
+    (λ c. search needs)
     put-requires
-    same-length
-    same-length-2
+    (λ c. search needs)
+    (λ c. search needs)
     returns-2)

@@ -12,38 +12,14 @@ use borrow.Author.Needs.{needs}
 use Rattle.session.proofs.lines.command.Statement.{statement}
 use Rattle.session.proofs.lines.command.Tie as tie
 
-malformed-line-requires : tie.Need-malformed-line-requires
-malformed-line-requires c κs = search needs
-
-same-length : tie.Need-same-length
-same-length c = search needs
-
 returns : tie.Need-returns
 returns c = same-said (now (c .before .before .before .before .before .before .before .before .args .out)) _ _ _ _ _ (c .before .before .malformed-line .ensures) (overlong _ _ (c .before .before .before .before .if1 .taken))
-
-first-word-requires : tie.Need-first-word-requires
-first-word-requires c κs = search needs
-
-verb-requires : tie.Need-verb-requires
-verb-requires c κs = search needs
-
-shape-of-requires : tie.Need-shape-of-requires
-shape-of-requires c κs = search needs
-
-after-word-requires : tie.Need-after-word-requires
-after-word-requires c κs = search needs
 
 read-words-requires : tie.Need-read-words-requires
 read-words-requires c κs = omega (arith, ap length (c .before .after-word .ensures), afterWord-length (now (c .before .before .before .before .before .before .before .before .before .args .line)), c .before .before .before .before .before .before .before .before .before .pre .0)
 
 direct-requires : tie.Need-direct-requires
 direct-requires c κs = let s = c .before .before .before .before .before .before .before .before .before .before .before .before .before .before in (omega (arith, s .pre .1), omega (arith, s .pre .0, ap (λ (x : Args). x .len) (c .before .before .before .before .read-words .ensures .0), readWords-len (c .before .before .before .before .before .before .before .shape-of .result) (now (c .before .before .before .before .before .before .after-word .result)), ap length (c .before .before .before .before .before .before .after-word .ensures), afterWord-length (now (s .args .line))))
-
-same-length-2 : tie.Need-same-length-2
-same-length-2 c = search needs
-
-same-length-3 : tie.Need-same-length-3
-same-length-3 c = search needs
 
 returns-2 : tie.Need-returns-2
 returns-2 c = same-said (now (c .before .before .before .before .before .before .before .before .before .before .before .before .before .before .before .before .before .before .before .args .out)) _ _ _ _ _ (c .before .before .before .before .direct .ensures) (directs _ _ (c .before .before .before .before .before .before .before .before .before .before .before .before .before .before .before .if1 .left) _ _ _ _ _ _ (c .before .before .before .before .before .before .before .before .before .before .before .before .before .before .first-word .ensures) (c .before .before .before .before .before .before .before .before .before .before .before .before .before .verb .ensures) (c .before .before .before .before .before .before .before .before .before .before .before .before .shape-of .ensures) (c .before .before .before .before .before .before .before .before .before .before .before .after-word .ensures) (c .before .before .before .before .before .before .before .before .before .read-words .ensures .0) (c .before .before .before .before .before .before .before .before .before .read-words .ensures .1))
@@ -52,15 +28,15 @@ pub command-spec : {M : Type 1} → statement M
 command-spec =
     tie.close
     (tie.spec
-    malformed-line-requires
-    same-length
+    (λ c κs. search needs)
+    (λ c. search needs)
     returns
-    first-word-requires
-    verb-requires
-    shape-of-requires
-    after-word-requires
+    (λ c κs. search needs)
+    (λ c κs. search needs)
+    (λ c κs. search needs)
+    (λ c κs. search needs)
     read-words-requires
     direct-requires
-    same-length-2
-    same-length-3
+    (λ c. search needs)
+    (λ c. search needs)
     returns-2)

@@ -4,18 +4,11 @@ use borrow.Author.Needs.{needs}
 use Rattle.session.proofs.lines.is_skipped.Statement.{statement}
 use Rattle.session.proofs.lines.is_skipped.Tie as tie
 
-first-word-requires : tie.Need-first-word-requires
-first-word-requires c κs = search needs
-
 returns : tie.Need-returns
 returns c = skipped-none _ _ (c .before .first-word .ensures) (c .if1 .taken)
-
-shared-slice-read-result : tie.Need-shared-slice-read-result
-shared-slice-read-result c = search needs
 
 returns-2 : tie.Need-returns-2
 returns-2 c = skipped-first _ _ (c .before .before .first-word .ensures) (c .before .if1 .left)
 
 pub is-skipped-spec : {M : Type 1} → statement M
-is-skipped-spec =
-    tie.close (tie.spec first-word-requires returns shared-slice-read-result returns-2)
+is-skipped-spec = tie.close (tie.spec (λ c κs. search needs) returns (λ c. search needs) returns-2)

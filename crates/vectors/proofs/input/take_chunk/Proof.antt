@@ -14,30 +14,6 @@ Inv-loop line₀ used chunk n₀ at₀ line n at = (at ≤ length chunk) × (n �
 abbrev μ-loop : tie.MeasureT-loop
 μ-loop line₀ used chunk n₀ at₀ line n at = length chunk - at
 
-loop-holds : tie.Need-loop-holds Inv-loop μ-loop
-loop-holds c = search needs
-
-sub-take-line : tie.Need-sub-take-line Inv-loop μ-loop
-sub-take-line c = search needs
-
-part-take-line-start : tie.Need-part-take-line-start Inv-loop μ-loop
-part-take-line-start c = search needs
-
-part-take-line-end : tie.Need-part-take-line-end Inv-loop μ-loop
-part-take-line-end c = search needs
-
-take-line-requires : tie.Need-take-line-requires Inv-loop μ-loop
-take-line-requires c κs = search needs
-
-finish-requires : tie.Need-finish-requires Inv-loop μ-loop
-finish-requires c κs = search needs
-
-add-at : tie.Need-add-at Inv-loop μ-loop
-add-at c = search needs
-
-loop-less : tie.Need-loop-less Inv-loop μ-loop
-loop-less c = search needs
-
 loop-again : tie.Need-loop-again Inv-loop μ-loop
 loop-again c =
     let t = c .before .before .before .before .take-line in
@@ -45,26 +21,20 @@ loop-again c =
     let u : c .before .if1 .n ≤ length (t .last .0) = ⊎-elim (λ w. omega arith) (λ w. omega (arith, t .ensures .0)) (c .before .if1 .came) in
     (search needs, u, omega arith, omega arith)
 
-same-length : tie.Need-same-length Inv-loop μ-loop
-same-length c = search needs
-
-returns : tie.Need-returns Inv-loop μ-loop
-returns c = search needs
-
 pub take-chunk-spec : {M : Type 1} → statement M
 take-chunk-spec =
     tie.close
     (tie.spec
     Inv-loop
     μ-loop
-    loop-holds
-    sub-take-line
-    part-take-line-start
-    part-take-line-end
-    take-line-requires
-    finish-requires
-    add-at
-    loop-less
+    (λ c. search needs)
+    (λ c. search needs)
+    (λ c. search needs)
+    (λ c. search needs)
+    (λ c κs. search needs)
+    (λ c κs. search needs)
+    (λ c. search needs)
+    (λ c. search needs)
     loop-again
-    same-length
-    returns)
+    (λ c. search needs)
+    (λ c. search needs))
