@@ -42,8 +42,9 @@ pub same-said : (b c : Bytes) (n : ℕ) (w : Volume) (s t : Said) → (w ≡ s .
 same-said b c n w s t h e = (h .0 ∙ ap (λ (x : Said). x .volume) e, rewritten b c n (s .said) (t .said) (h .1) (ap (λ (x : Said). x .said) e))
 
 -- the request that a match has told
-pub made-of : (v : Volume) (a : Args) (t : Bytes) {verb is : Verb} → verb ≡ is → respond v is a t ≡ respond v verb a t
-made-of v a t e = ap (λ (x : Verb). respond v x a t) (sym e)
+pub performs : (b c : Bytes) (n : ℕ) (w v : Volume) (verb is : Verb) (a : Args) (t : Bytes) → verb ≡ is → (w ≡ (respond v is a t) .volume) × Written b c n ((respond v is a t) .said)
+    → (w ≡ (respond v verb a t) .volume) × Written b c n ((respond v verb a t) .said)
+performs b c n w v verb is a t e h = same-said b c n w (respond v is a t) (respond v verb a t) h (ap (λ (x : Verb). respond v x a t) (sym e))
 
 module _ (v : Volume) (a : Args) (t : Bytes) where
   pub shows : a .second ≤ 4096 → told false (step fscrypt v (show (entry (a .first)) (zeros (a .second)))) ≡ respond v Show a t

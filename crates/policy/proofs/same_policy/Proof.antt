@@ -8,22 +8,6 @@ use borrow.Author.Needs.{needs}
 use Rattle.policy.proofs.same_policy.Statement.{statement}
 use Rattle.policy.proofs.same_policy.Tie as tie
 
-returns : tie.Need-returns
-unfolding samePolicy
-returns c = search predicates depth 12
-
-returns-2 : tie.Need-returns-2
-unfolding samePolicy
-returns-2 c = search predicates depth 12
-
-returns-3 : tie.Need-returns-3
-unfolding samePolicy
-returns-3 c = search predicates depth 12
-
-returns-4 : tie.Need-returns-4
-unfolding samePolicy
-returns-4 c = search predicates depth 12
-
 slice-aggregate-same-bytes : tie.Need-slice-aggregate-same-bytes
 slice-aggregate-same-bytes c =
     let s = c .before .before .before .before .before .before .before .before .before .before .before .before .before .before .before in
@@ -46,13 +30,14 @@ returns-5 c =
     and-go _ _ _ (eq-eqb _ _ (v .if1 .left)) (and-go _ _ _ (eq-eqb _ _ (k .if2 .left)) names)
 
 pub same-policy-spec : {M : Type 1} → statement M
+unfolding samePolicy
 same-policy-spec =
     tie.close
     (tie.spec
-    returns
-    returns-2
-    returns-3
-    returns-4
+    (λ c. search predicates depth 12)
+    (λ c. search predicates depth 12)
+    (λ c. search predicates depth 12)
+    (λ c. search predicates depth 12)
     slice-aggregate-same-bytes
     slice-aggregate-same-bytes-2
     (λ c κs. search needs)

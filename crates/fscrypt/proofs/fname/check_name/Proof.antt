@@ -6,21 +6,13 @@ use Rattle.fscrypt.specs.Names.{nameCheck}
 use Rattle.fscrypt.proofs.fname.check_name.Statement.{statement}
 use Rattle.fscrypt.proofs.fname.check_name.Tie as tie
 
-returns : tie.Need-returns
-unfolding nameCheck
-returns c = search (predicates, stop, skip) depth 25
-
-returns-2 : tie.Need-returns-2
-unfolding nameCheck
-returns-2 c = search (predicates, stop, skip) depth 25
-
-returns-3 : tie.Need-returns-3
-unfolding nameCheck
-returns-3 c = search (predicates, stop, skip) depth 25
-
-returns-4 : tie.Need-returns-4
-unfolding nameCheck
-returns-4 c = search (predicates, skip) depth 25
-
 pub check-name-spec : {M : Type 1} → statement M
-check-name-spec = tie.close (tie.spec returns returns-2 (λ c κs. search needs) returns-3 returns-4)
+unfolding nameCheck
+check-name-spec =
+    tie.close
+    (tie.spec
+    (λ c. search (predicates, stop, skip) depth 25)
+    (λ c. search (predicates, stop, skip) depth 25)
+    (λ c κs. search needs)
+    (λ c. search (predicates, stop, skip) depth 25)
+    (λ c. search (predicates, skip) depth 25))

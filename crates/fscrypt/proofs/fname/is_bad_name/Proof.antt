@@ -5,13 +5,12 @@ use Rattle.fscrypt.specs.Names.{isBadName}
 use Rattle.fscrypt.proofs.fname.is_bad_name.Statement.{statement}
 use Rattle.fscrypt.proofs.fname.is_bad_name.Tie as tie
 
-returns : tie.Need-returns
-unfolding isBadName
-returns c = search predicates depth 12
-
-returns-2 : tie.Need-returns-2
-unfolding isBadName
-returns-2 c = search predicates depth 12
-
 pub is-bad-name-spec : {M : Type 1} → statement M
-is-bad-name-spec = tie.close (tie.spec (λ c κs. search needs) returns (λ c κs. search needs) returns-2)
+unfolding isBadName
+is-bad-name-spec =
+    tie.close
+    (tie.spec
+    (λ c κs. search needs)
+    (λ c. search predicates depth 12)
+    (λ c κs. search needs)
+    (λ c. search predicates depth 12))

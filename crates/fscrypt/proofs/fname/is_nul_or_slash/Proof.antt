@@ -3,11 +3,5 @@ use Rattle.lists.proofs.Predicates.{predicates}
 use Rattle.fscrypt.proofs.fname.is_nul_or_slash.Statement.{statement}
 use Rattle.fscrypt.proofs.fname.is_nul_or_slash.Tie as tie
 
-returns : tie.Need-returns
-returns c = search predicates depth 12
-
-returns-2 : tie.Need-returns-2
-returns-2 c = search predicates depth 12
-
 pub is-nul-or-slash-spec : {M : Type 1} → statement M
-is-nul-or-slash-spec = tie.close (tie.spec returns returns-2)
+is-nul-or-slash-spec = tie.close (tie.spec (λ c. search predicates depth 12) (λ c. search predicates depth 12))
