@@ -5,14 +5,8 @@ use borrow.Author.Needs.{needs}
 use Rattle.names.proofs.derived_key.Statement.{statement}
 use Rattle.names.proofs.derived_key.Tie as tie
 
-key-of-requires : tie.Need-key-of-requires
-key-of-requires c κs = search needs
-
-derive-key-requires : tie.Need-derive-key-requires
-derive-key-requires c κs = search needs
-
 returns : tie.Need-returns
 returns c = derived-by fscrypt _ _ _ _ (c .before .before .before .key-of .ensures) (c .before .before .before .before .before .before .before .pre) (search needs) (c .derive-key .ensures)
 
 pub derived-key-spec : {M : Type 1} → statement M
-derived-key-spec = tie.close (tie.spec key-of-requires derive-key-requires returns)
+derived-key-spec = tie.close (tie.spec (λ c κs. search needs) (λ c κs. search needs) returns)

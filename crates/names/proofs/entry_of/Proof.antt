@@ -7,18 +7,12 @@ use borrow.Author.Needs.{needs}
 use Rattle.names.proofs.entry_of.Statement.{statement}
 use Rattle.names.proofs.entry_of.Tie as tie
 
-inode-at-requires : tie.Need-inode-at-requires
-inode-at-requires c κs = search needs
-
 stored-name-requires : tie.Need-stored-name-requires
 stored-name-requires c κs = (c .before .before .pre .0, ap (lacksKey _) (c .inode-at .ensures) ∙ c .before .before .pre .1)
-
-entry-named-requires : tie.Need-entry-named-requires
-entry-named-requires c κs = search needs
 
 returns : tie.Need-returns
 returns c = entry-by fscrypt _ _ _ (c .before .before .inode-at .result) (c .before .stored-name .result) _ (c .before .before .inode-at .ensures) (c .before .stored-name .ensures) (c .entry-named .ensures)
 
 pub entry-of-spec : {M : Type 1} → statement M
 entry-of-spec =
-    tie.close (tie.spec inode-at-requires stored-name-requires entry-named-requires returns)
+    tie.close (tie.spec (λ c κs. search needs) stored-name-requires (λ c κs. search needs) returns)

@@ -6,9 +6,6 @@ use borrow.Author.Needs.{needs}
 use Rattle.names.proofs.name_of.Statement.{statement}
 use Rattle.names.proofs.name_of.Tie as tie
 
-cast-len : tie.Need-cast-len
-cast-len c = search needs
-
 array-share-prefix-bytes : tie.Need-array-share-prefix-bytes
 array-share-prefix-bytes c =
     let s = c .before .before in
@@ -27,10 +24,7 @@ pack-requires c κs =
     let h = entry-sized (s .args .e) (s .good .0) in
     omega (arith, count-take (s .args .e .len) (s .args .e .name) (omega arith))
 
-returns : tie.Need-returns
-returns c = search needs
-
 pub name-of-spec : {M : Type 1} → statement M
 name-of-spec =
     tie.close
-    (tie.spec cast-len array-share-prefix-bytes slice-aggregate-pack pack-requires returns)
+    (tie.spec (λ c. search needs) array-share-prefix-bytes slice-aggregate-pack pack-requires (λ c. search needs))

@@ -10,17 +10,8 @@ use borrow.Author.Needs.{needs}
 use Rattle.names.proofs.shown_name.Statement.{statement}
 use Rattle.names.proofs.shown_name.Tie as tie
 
-name-of-requires : tie.Need-name-of-requires
-name-of-requires c κs = search needs
-
 returns : tie.Need-returns
 returns c = shown-plain fscrypt _ _ _ _ _ (not-true _ (c .if1 .taken)) (c .before .before .name-of .ensures)
-
-key-present-requires : tie.Need-key-present-requires
-key-present-requires c κs = search needs
-
-encode-name-requires : tie.Need-encode-name-requires
-encode-name-requires c κs = search needs
 
 returns-2 : tie.Need-returns-2
 returns-2 c = shown-encoded fscrypt _ _ _ _ (c .before .before .before .before .before .name-of .result) _ (not-false _ (c .before .before .before .if1 .left)) (sym (c .before .before .key-present .ensures) ∙ not-true _ (c .before .if2 .taken)) (c .before .before .before .before .before .name-of .ensures) (c .encode-name .ensures)
@@ -28,19 +19,10 @@ returns-2 c = shown-encoded fscrypt _ _ _ _ (c .before .before .before .before .
 derived-key-requires : tie.Need-derived-key-requires
 derived-key-requires c κs = sym (c .before .before .before .key-present .ensures) ∙ not-false _ (c .before .before .if2 .left)
 
-name-key-size-requires : tie.Need-name-key-size-requires
-name-key-size-requires c κs = search needs
-
-array-share-prefix-key : tie.Need-array-share-prefix-key
-array-share-prefix-key c = search needs
-
 slice-aggregate-decrypt-name : tie.Need-slice-aggregate-decrypt-name
 slice-aggregate-decrypt-name c =
     let n : length (c .before .before .derived-key .result) ≡ 64 = search needs in
     count-take (c .before .name-key-size .result) (c .before .before .derived-key .result) (omega (arith, c .before .name-key-size .ensures .1))
-
-decrypt-name-requires : tie.Need-decrypt-name-requires
-decrypt-name-requires c κs = search needs
 
 returns-3 : tie.Need-returns-3
 returns-3 c =
@@ -53,14 +35,14 @@ pub shown-name-spec : {M : Type 1} → statement M
 shown-name-spec =
     tie.close
     (tie.spec
-    name-of-requires
+    (λ c κs. search needs)
     returns
-    key-present-requires
-    encode-name-requires
+    (λ c κs. search needs)
+    (λ c κs. search needs)
     returns-2
     derived-key-requires
-    name-key-size-requires
-    array-share-prefix-key
+    (λ c κs. search needs)
+    (λ c. search needs)
     slice-aggregate-decrypt-name
-    decrypt-name-requires
+    (λ c κs. search needs)
     returns-3)

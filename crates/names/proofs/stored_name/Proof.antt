@@ -11,28 +11,16 @@ use borrow.Author.Needs.{needs}
 use Rattle.names.proofs.stored_name.Statement.{statement}
 use Rattle.names.proofs.stored_name.Tie as tie
 
-pack-requires : tie.Need-pack-requires
-pack-requires c κs = search needs
-
 returns : tie.Need-returns
 returns c = stored-plain fscrypt _ _ _ _ (not-true _ (c .before .if1 .taken)) (c .pack .ensures)
 
 derived-key-requires : tie.Need-derived-key-requires
 derived-key-requires c κs = key-present _ _ (not-false _ (c .before .before .if1 .left)) (c .before .before .before .before .before .pre .1)
 
-name-key-size-requires : tie.Need-name-key-size-requires
-name-key-size-requires c κs = search needs
-
-array-share-prefix-key : tie.Need-array-share-prefix-key
-array-share-prefix-key c = search needs
-
 slice-aggregate-encrypt-name : tie.Need-slice-aggregate-encrypt-name
 slice-aggregate-encrypt-name c =
     let n : length (c .before .before .derived-key .result) ≡ 64 = search needs in
     count-take (c .before .name-key-size .result) (c .before .before .derived-key .result) (omega (arith, c .before .name-key-size .ensures .1))
-
-encrypt-name-requires : tie.Need-encrypt-name-requires
-encrypt-name-requires c κs = search needs
 
 returns-2 : tie.Need-returns-2
 returns-2 c =
@@ -44,11 +32,11 @@ pub stored-name-spec : {M : Type 1} → statement M
 stored-name-spec =
     tie.close
     (tie.spec
-    pack-requires
+    (λ c κs. search needs)
     returns
     derived-key-requires
-    name-key-size-requires
-    array-share-prefix-key
+    (λ c κs. search needs)
+    (λ c. search needs)
     slice-aggregate-encrypt-name
-    encrypt-name-requires
+    (λ c κs. search needs)
     returns-2)

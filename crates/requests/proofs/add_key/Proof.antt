@@ -8,15 +8,6 @@ use borrow.Author.Needs.{needs}
 use Rattle.requests.proofs.add_key.Statement.{statement}
 use Rattle.requests.proofs.add_key.Tie as tie
 
-add-key-check-requires : tie.Need-add-key-check-requires
-add-key-check-requires c κs = search needs
-
-enum-known-e : tie.Need-enum-known-e
-enum-known-e c = search needs
-
-enum-told : tie.Need-enum-told
-enum-told c = search needs
-
 add-key-requires : tie.Need-add-key-requires
 add-key-requires c κs = let k = add-key-passed _ _ _ (sym (c .before .before .add-key-check .ensures) ∙ c .enum-told .given .1) in (key-fits _ (k .size), k .room)
 
@@ -31,4 +22,4 @@ returns-2 c = acts fscrypt _ _ _ (c .before .before .before .add-key-check .ensu
 pub add-key-spec : {M : Type 1} → statement M
 add-key-spec =
     tie.close
-    (tie.spec add-key-check-requires enum-known-e enum-told add-key-requires returns returns-2)
+    (tie.spec (λ c κs. search needs) (λ c. search needs) (λ c. search needs) add-key-requires returns returns-2)

@@ -9,15 +9,6 @@ use borrow.Author.Needs.{needs}
 use Rattle.requests.proofs.create.Statement.{statement}
 use Rattle.requests.proofs.create.Tie as tie
 
-create-check-requires : tie.Need-create-check-requires
-create-check-requires c κs = search needs
-
-enum-known-e : tie.Need-enum-known-e
-enum-known-e c = search needs
-
-enum-told : tie.Need-enum-told
-enum-told c = search needs
-
 create-requires : tie.Need-create-requires
 create-requires c κs = let k = create-passed fscrypt _ _ _ _ _ (sym (c .before .before .create-check .ensures) ∙ c .enum-told .given .1) in (name-fits _ (k .name), (k .key, (k .kind .1, (k .inode-room, k .entry-room))))
 
@@ -32,4 +23,4 @@ returns-2 c = acts fscrypt _ _ _ (c .before .before .before .create-check .ensur
 pub create-spec : {M : Type 1} → statement M
 create-spec =
     tie.close
-    (tie.spec create-check-requires enum-known-e enum-told create-requires returns returns-2)
+    (tie.spec (λ c κs. search needs) (λ c. search needs) (λ c. search needs) create-requires returns returns-2)

@@ -6,18 +6,6 @@ use borrow.Author.Needs.{needs}
 use Rattle.requests.proofs.exchange.Statement.{statement}
 use Rattle.requests.proofs.exchange.Tie as tie
 
-exchange-check-requires : tie.Need-exchange-check-requires
-exchange-check-requires c κs = search needs
-
-enum-known-e : tie.Need-enum-known-e
-enum-known-e c = search needs
-
-enum-told : tie.Need-enum-told
-enum-told c = search needs
-
-exchange-requires : tie.Need-exchange-requires
-exchange-requires c κs = search needs
-
 returns : tie.Need-returns
 unfolding check lent
 returns c = refuses fscrypt _ _ _ (c .before .before .before .exchange-check .ensures) _ (c .before .e .given .1)
@@ -29,4 +17,4 @@ returns-2 c = acts fscrypt _ _ _ (c .before .before .before .exchange-check .ens
 pub exchange-spec : {M : Type 1} → statement M
 exchange-spec =
     tie.close
-    (tie.spec exchange-check-requires enum-known-e enum-told exchange-requires returns returns-2)
+    (tie.spec (λ c κs. search needs) (λ c. search needs) (λ c. search needs) (λ c κs. search needs) returns returns-2)

@@ -9,15 +9,6 @@ use borrow.Author.Needs.{needs}
 use Rattle.requests.proofs.find.Statement.{statement}
 use Rattle.requests.proofs.find.Tie as tie
 
-find-check-requires : tie.Need-find-check-requires
-find-check-requires c κs = search needs
-
-enum-known-e : tie.Need-enum-known-e
-enum-known-e c = search needs
-
-enum-told : tie.Need-enum-told
-enum-told c = search needs
-
 find-requires : tie.Need-find-requires
 find-requires c κs = let k = find-passed fscrypt _ _ _ (sym (c .before .before .find-check .ensures) ∙ c .enum-told .given .1) in (name-fits _ (k .name), k .key)
 
@@ -31,4 +22,4 @@ returns-2 c = acts fscrypt _ _ _ (c .before .before .before .find-check .ensures
 
 pub find-spec : {M : Type 1} → statement M
 find-spec =
-    tie.close (tie.spec find-check-requires enum-known-e enum-told find-requires returns returns-2)
+    tie.close (tie.spec (λ c κs. search needs) (λ c. search needs) (λ c. search needs) find-requires returns returns-2)

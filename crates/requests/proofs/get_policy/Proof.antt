@@ -9,18 +9,6 @@ use borrow.Author.Needs.{needs}
 use Rattle.requests.proofs.get_policy.Statement.{statement}
 use Rattle.requests.proofs.get_policy.Tie as tie
 
-get-policy-check-requires : tie.Need-get-policy-check-requires
-get-policy-check-requires c κs = search needs
-
-enum-known-e : tie.Need-enum-known-e
-enum-known-e c = search needs
-
-enum-told : tie.Need-enum-told
-enum-told c = search needs
-
-get-policy-requires : tie.Need-get-policy-requires
-get-policy-requires c κs = search needs
-
 returns : tie.Need-returns
 unfolding check lent zeros
 returns c = let e = refuses fscrypt _ _ _ (c .before .before .before .get-policy-check .ensures) _ (c .before .e .given .1) in (e, zeros-beside _ _ _ _ e)
@@ -35,9 +23,9 @@ pub get-policy-spec : {M : Type 1} → statement M
 get-policy-spec =
     tie.close
     (tie.spec
-    get-policy-check-requires
-    enum-known-e
-    enum-told
-    get-policy-requires
+    (λ c κs. search needs)
+    (λ c. search needs)
+    (λ c. search needs)
+    (λ c κs. search needs)
     returns
     returns-2)

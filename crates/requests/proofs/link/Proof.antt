@@ -9,15 +9,6 @@ use borrow.Author.Needs.{needs}
 use Rattle.requests.proofs.link.Statement.{statement}
 use Rattle.requests.proofs.link.Tie as tie
 
-link-check-requires : tie.Need-link-check-requires
-link-check-requires c κs = search needs
-
-enum-known-e : tie.Need-enum-known-e
-enum-known-e c = search needs
-
-enum-told : tie.Need-enum-told
-enum-told c = search needs
-
 link-requires : tie.Need-link-requires
 link-requires c κs = let k = link-passed fscrypt _ _ _ _ (sym (c .before .before .link-check .ensures) ∙ c .enum-told .given .1) in (name-fits _ (k .name), (k .key, k .entry-room))
 
@@ -31,4 +22,4 @@ returns-2 c = acts fscrypt _ _ _ (c .before .before .before .link-check .ensures
 
 pub link-spec : {M : Type 1} → statement M
 link-spec =
-    tie.close (tie.spec link-check-requires enum-known-e enum-told link-requires returns returns-2)
+    tie.close (tie.spec (λ c κs. search needs) (λ c. search needs) (λ c. search needs) link-requires returns returns-2)

@@ -8,24 +8,12 @@ use borrow.Author.Needs.{needs}
 use Rattle.requests.proofs.open.Statement.{statement}
 use Rattle.requests.proofs.open.Tie as tie
 
-block-check-requires : tie.Need-block-check-requires
-block-check-requires c κs = search needs
-
-enum-known-e : tie.Need-enum-known-e
-enum-known-e c = search needs
-
-enum-told : tie.Need-enum-told
-enum-told c = search needs
-
 open-requires : tie.Need-open-requires
 open-requires c κs = let k = block-passed _ _ _ (sym (c .before .before .before .block-check .ensures) ∙ c .before .enum-told .given .1) in (k .key, k .has-context)
 
 returns : tie.Need-returns
 unfolding check lent
 returns c = refuses fscrypt _ _ _ (c .before .before .before .block-check .ensures) _ (c .before .e .given .1)
-
-same-length : tie.Need-same-length
-same-length c = search needs
 
 returns-2 : tie.Need-returns-2
 unfolding check
@@ -35,10 +23,10 @@ pub open-spec : {M : Type 1} → statement M
 open-spec =
     tie.close
     (tie.spec
-    block-check-requires
-    enum-known-e
-    enum-told
+    (λ c κs. search needs)
+    (λ c. search needs)
+    (λ c. search needs)
     open-requires
     returns
-    same-length
+    (λ c. search needs)
     returns-2)

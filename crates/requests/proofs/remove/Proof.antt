@@ -6,18 +6,6 @@ use borrow.Author.Needs.{needs}
 use Rattle.requests.proofs.remove.Statement.{statement}
 use Rattle.requests.proofs.remove.Tie as tie
 
-remove-check-requires : tie.Need-remove-check-requires
-remove-check-requires c κs = search needs
-
-enum-known-e : tie.Need-enum-known-e
-enum-known-e c = search needs
-
-enum-told : tie.Need-enum-told
-enum-told c = search needs
-
-remove-requires : tie.Need-remove-requires
-remove-requires c κs = search needs
-
 returns : tie.Need-returns
 unfolding check lent
 returns c = refuses fscrypt _ _ _ (c .before .before .before .remove-check .ensures) _ (c .before .e .given .1)
@@ -29,4 +17,4 @@ returns-2 c = acts fscrypt _ _ _ (c .before .before .before .remove-check .ensur
 pub remove-spec : {M : Type 1} → statement M
 remove-spec =
     tie.close
-    (tie.spec remove-check-requires enum-known-e enum-told remove-requires returns returns-2)
+    (tie.spec (λ c κs. search needs) (λ c. search needs) (λ c. search needs) (λ c κs. search needs) returns returns-2)

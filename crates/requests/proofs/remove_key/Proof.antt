@@ -8,15 +8,6 @@ use borrow.Author.Needs.{needs}
 use Rattle.requests.proofs.remove_key.Statement.{statement}
 use Rattle.requests.proofs.remove_key.Tie as tie
 
-remove-key-check-requires : tie.Need-remove-key-check-requires
-remove-key-check-requires c κs = search needs
-
-enum-known-e : tie.Need-enum-known-e
-enum-known-e c = search needs
-
-enum-told : tie.Need-enum-told
-enum-told c = search needs
-
 remove-key-requires : tie.Need-remove-key-requires
 remove-key-requires c κs = remove-key-passed _ _ (sym (c .before .before .remove-key-check .ensures) ∙ c .enum-told .given .1)
 
@@ -32,9 +23,9 @@ pub remove-key-spec : {M : Type 1} → statement M
 remove-key-spec =
     tie.close
     (tie.spec
-    remove-key-check-requires
-    enum-known-e
-    enum-told
+    (λ c κs. search needs)
+    (λ c. search needs)
+    (λ c. search needs)
     remove-key-requires
     returns
     returns-2)

@@ -9,15 +9,6 @@ use borrow.Author.Needs.{needs}
 use Rattle.requests.proofs.rename.Statement.{statement}
 use Rattle.requests.proofs.rename.Tie as tie
 
-rename-check-requires : tie.Need-rename-check-requires
-rename-check-requires c κs = search needs
-
-enum-known-e : tie.Need-enum-known-e
-enum-known-e c = search needs
-
-enum-told : tie.Need-enum-told
-enum-told c = search needs
-
 rename-requires : tie.Need-rename-requires
 rename-requires c κs = let k = rename-passed fscrypt _ _ _ _ (sym (c .before .before .rename-check .ensures) ∙ c .enum-told .given .1) in (name-fits _ (k .name), k .key)
 
@@ -32,4 +23,4 @@ returns-2 c = acts fscrypt _ _ _ (c .before .before .before .rename-check .ensur
 pub rename-spec : {M : Type 1} → statement M
 rename-spec =
     tie.close
-    (tie.spec rename-check-requires enum-known-e enum-told rename-requires returns returns-2)
+    (tie.spec (λ c κs. search needs) (λ c. search needs) (λ c. search needs) rename-requires returns returns-2)

@@ -6,18 +6,6 @@ use borrow.Author.Needs.{needs}
 use Rattle.requests.proofs.set_policy.Statement.{statement}
 use Rattle.requests.proofs.set_policy.Tie as tie
 
-set-policy-check-requires : tie.Need-set-policy-check-requires
-set-policy-check-requires c κs = search needs
-
-enum-known-e : tie.Need-enum-known-e
-enum-known-e c = search needs
-
-enum-told : tie.Need-enum-told
-enum-told c = search needs
-
-set-policy-requires : tie.Need-set-policy-requires
-set-policy-requires c κs = search needs
-
 returns : tie.Need-returns
 unfolding check lent
 returns c = refuses fscrypt _ _ _ (c .before .before .before .set-policy-check .ensures) _ (c .before .e .given .1)
@@ -30,9 +18,9 @@ pub set-policy-spec : {M : Type 1} → statement M
 set-policy-spec =
     tie.close
     (tie.spec
-    set-policy-check-requires
-    enum-known-e
-    enum-told
-    set-policy-requires
+    (λ c κs. search needs)
+    (λ c. search needs)
+    (λ c. search needs)
+    (λ c κs. search needs)
     returns
     returns-2)

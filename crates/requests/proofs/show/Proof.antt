@@ -8,24 +8,12 @@ use borrow.Author.Needs.{needs}
 use Rattle.requests.proofs.show.Statement.{statement}
 use Rattle.requests.proofs.show.Tie as tie
 
-show-check-requires : tie.Need-show-check-requires
-show-check-requires c κs = search needs
-
-enum-known-e : tie.Need-enum-known-e
-enum-known-e c = search needs
-
-enum-told : tie.Need-enum-told
-enum-told c = search needs
-
 show-requires : tie.Need-show-requires
 show-requires c κs = show-passed fscrypt _ _ _ (sym (c .before .before .before .show-check .ensures) ∙ c .before .enum-told .given .1) .room
 
 returns : tie.Need-returns
 unfolding check lent
 returns c = refuses fscrypt _ _ _ (c .before .before .before .show-check .ensures) _ (c .before .e .given .1)
-
-same-length : tie.Need-same-length
-same-length c = search needs
 
 returns-2 : tie.Need-returns-2
 unfolding check
@@ -35,10 +23,10 @@ pub show-spec : {M : Type 1} → statement M
 show-spec =
     tie.close
     (tie.spec
-    show-check-requires
-    enum-known-e
-    enum-told
+    (λ c κs. search needs)
+    (λ c. search needs)
+    (λ c. search needs)
     show-requires
     returns
-    same-length
+    (λ c. search needs)
     returns-2)

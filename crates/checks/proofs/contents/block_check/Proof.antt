@@ -9,9 +9,6 @@ returns : tie.Need-returns
 unfolding blockCheck
 returns c = search lines depth 25
 
-inode-at-requires : tie.Need-inode-at-requires
-inode-at-requires c κs = search needs
-
 returns-2 : tie.Need-returns-2
 unfolding blockCheck
 returns-2 c = search lines depth 25
@@ -23,9 +20,6 @@ returns-3 c = search lines depth 25
 returns-4 : tie.Need-returns-4
 unfolding blockCheck
 returns-4 c = search lines depth 25
-
-lacks-key-requires : tie.Need-lacks-key-requires
-lacks-key-requires c κs = search needs
 
 returns-5 : tie.Need-returns-5
 unfolding blockCheck
@@ -40,10 +34,10 @@ block-check-spec =
     tie.close
     (tie.spec
     returns
-    inode-at-requires
+    (λ c κs. search needs)
     returns-2
     returns-3
     returns-4
-    lacks-key-requires
+    (λ c κs. search needs)
     returns-5
     returns-6)

@@ -5,20 +5,11 @@ use Rattle.checks.proofs.Lines.{nonce-needless, nonce-needed}
 use Rattle.checks.proofs.directory.child_nonce_check.Statement.{statement}
 use Rattle.checks.proofs.directory.child_nonce_check.Tie as tie
 
-inode-at-requires : tie.Need-inode-at-requires
-inode-at-requires c κs = search needs
-
-is-nonce-needed-requires : tie.Need-is-nonce-needed-requires
-is-nonce-needed-requires c κs = search needs
-
 returns : tie.Need-returns
 returns c = let t = c .before .is-nonce-needed in
     let d = c .before .before .inode-at in
     let s = c .before .before .before .args in
     nonce-needless (s .v) (s .p) (s .kind) (s .x) (d .result) (t .result) (d .ensures) (t .ensures) (not-true _ (c .if1 .taken))
-
-nonce-check-requires : tie.Need-nonce-check-requires
-nonce-check-requires c κs = search needs
 
 returns-2 : tie.Need-returns-2
 returns-2 c = let t = c .before .before .is-nonce-needed in
@@ -28,4 +19,4 @@ returns-2 c = let t = c .before .before .is-nonce-needed in
 pub child-nonce-check-spec : {M : Type 1} → statement M
 child-nonce-check-spec =
     tie.close
-    (tie.spec inode-at-requires is-nonce-needed-requires returns nonce-check-requires returns-2)
+    (tie.spec (λ c κs. search needs) (λ c κs. search needs) returns (λ c κs. search needs) returns-2)

@@ -5,22 +5,13 @@ use borrow.Author.Needs.{needs}
 use Rattle.checks.proofs.directory.exchange_check.Statement.{statement}
 use Rattle.checks.proofs.directory.exchange_check.Tie as tie
 
-entry-at-requires : tie.Need-entry-at-requires
-entry-at-requires c κs = search needs
-
 returns : tie.Need-returns
 unfolding exchangeCheck
 returns c = search lines depth 25
 
-entry-at-requires-2 : tie.Need-entry-at-requires-2
-entry-at-requires-2 c κs = search needs
-
 returns-2 : tie.Need-returns-2
 unfolding exchangeCheck
 returns-2 c = search lines depth 25
-
-swap-check-requires : tie.Need-swap-check-requires
-swap-check-requires c κs = search needs
 
 returns-3 : tie.Need-returns-3
 unfolding exchangeCheck
@@ -30,9 +21,9 @@ pub exchange-check-spec : {M : Type 1} → statement M
 exchange-check-spec =
     tie.close
     (tie.spec
-    entry-at-requires
+    (λ c κs. search needs)
     returns
-    entry-at-requires-2
+    (λ c κs. search needs)
     returns-2
-    swap-check-requires
+    (λ c κs. search needs)
     returns-3)

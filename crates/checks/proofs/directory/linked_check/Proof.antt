@@ -5,20 +5,11 @@ use borrow.Author.Needs.{needs}
 use Rattle.checks.proofs.directory.linked_check.Statement.{statement}
 use Rattle.checks.proofs.directory.linked_check.Tie as tie
 
-inode-at-requires : tie.Need-inode-at-requires
-inode-at-requires c κs = search needs
-
 returns : tie.Need-returns
 returns c = search lines depth 25
 
-lacks-key-requires : tie.Need-lacks-key-requires
-lacks-key-requires c κs = search needs
-
 returns-2 : tie.Need-returns-2
 returns-2 c = search lines depth 25
-
-is-refused-in-requires : tie.Need-is-refused-in-requires
-is-refused-in-requires c κs = search needs
 
 returns-3 : tie.Need-returns-3
 returns-3 c = search lines depth 25
@@ -28,9 +19,6 @@ entry-of-requires c κs = (search needs, search bool-via)
 
 returns-4 : tie.Need-returns-4
 returns-4 c = search lines depth 25
-
-free-entry-requires : tie.Need-free-entry-requires
-free-entry-requires c κs = search needs
 
 returns-5 : tie.Need-returns-5
 returns-5 c = search lines depth 25
@@ -42,14 +30,14 @@ pub linked-check-spec : {M : Type 1} → statement M
 linked-check-spec =
     tie.close
     (tie.spec
-    inode-at-requires
+    (λ c κs. search needs)
     returns
-    lacks-key-requires
+    (λ c κs. search needs)
     returns-2
-    is-refused-in-requires
+    (λ c κs. search needs)
     returns-3
     entry-of-requires
     returns-4
-    free-entry-requires
+    (λ c κs. search needs)
     returns-5
     returns-6)

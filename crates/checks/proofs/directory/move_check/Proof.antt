@@ -5,38 +5,17 @@ use borrow.Author.Needs.{needs}
 use Rattle.checks.proofs.directory.move_check.Statement.{statement}
 use Rattle.checks.proofs.directory.move_check.Tie as tie
 
-directory-check-requires : tie.Need-directory-check-requires
-directory-check-requires c κs = search needs
-
-enum-known-e : tie.Need-enum-known-e
-enum-known-e c = search needs
-
 returns : tie.Need-returns
 returns c = search calls depth 25
-
-enum-told : tie.Need-enum-told
-enum-told c = search needs
-
-lacks-key-requires : tie.Need-lacks-key-requires
-lacks-key-requires c κs = search needs
 
 returns-2 : tie.Need-returns-2
 returns-2 c = search calls depth 25
 
-lacks-key-requires-2 : tie.Need-lacks-key-requires-2
-lacks-key-requires-2 c κs = search needs
-
 returns-3 : tie.Need-returns-3
 returns-3 c = search calls depth 25
 
-is-refused-in-requires : tie.Need-is-refused-in-requires
-is-refused-in-requires c κs = search needs
-
 returns-4 : tie.Need-returns-4
 returns-4 c = search calls depth 25
-
-is-under-itself-requires : tie.Need-is-under-itself-requires
-is-under-itself-requires c κs = search needs
 
 returns-5 : tie.Need-returns-5
 returns-5 c = search calls depth 25
@@ -54,17 +33,17 @@ pub move-check-spec : {M : Type 1} → statement M
 move-check-spec =
     tie.close
     (tie.spec
-    directory-check-requires
-    enum-known-e
+    (λ c κs. search needs)
+    (λ c. search needs)
     returns
-    enum-told
-    lacks-key-requires
+    (λ c. search needs)
+    (λ c κs. search needs)
     returns-2
-    lacks-key-requires-2
+    (λ c κs. search needs)
     returns-3
-    is-refused-in-requires
+    (λ c κs. search needs)
     returns-4
-    is-under-itself-requires
+    (λ c κs. search needs)
     returns-5
     entry-of-requires
     returns-6

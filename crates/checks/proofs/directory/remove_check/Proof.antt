@@ -5,15 +5,9 @@ use borrow.Author.Needs.{needs}
 use Rattle.checks.proofs.directory.remove_check.Statement.{statement}
 use Rattle.checks.proofs.directory.remove_check.Tie as tie
 
-entry-at-requires : tie.Need-entry-at-requires
-entry-at-requires c κs = search needs
-
 returns : tie.Need-returns
 unfolding removeCheck
 returns c = search lines depth 25
-
-has-entries-requires : tie.Need-has-entries-requires
-has-entries-requires c κs = search needs
 
 returns-2 : tie.Need-returns-2
 unfolding removeCheck
@@ -25,4 +19,4 @@ returns-3 c = rw (← c .before .before .before .before .before .entry-at .ensur
 
 pub remove-check-spec : {M : Type 1} → statement M
 remove-check-spec =
-    tie.close (tie.spec entry-at-requires returns has-entries-requires returns-2 returns-3)
+    tie.close (tie.spec (λ c κs. search needs) returns (λ c κs. search needs) returns-2 returns-3)

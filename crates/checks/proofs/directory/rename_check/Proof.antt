@@ -5,21 +5,9 @@ use borrow.Author.Needs.{needs}
 use Rattle.checks.proofs.directory.rename_check.Statement.{statement}
 use Rattle.checks.proofs.directory.rename_check.Tie as tie
 
-check-name-requires : tie.Need-check-name-requires
-check-name-requires c κs = search needs
-
-enum-known-e : tie.Need-enum-known-e
-enum-known-e c = search needs
-
 returns : tie.Need-returns
 unfolding renameCheck
 returns c = search lines depth 25
-
-enum-told : tie.Need-enum-told
-enum-told c = search needs
-
-entry-at-requires : tie.Need-entry-at-requires
-entry-at-requires c κs = search needs
 
 returns-2 : tie.Need-returns-2
 unfolding renameCheck
@@ -36,11 +24,11 @@ pub rename-check-spec : {M : Type 1} → statement M
 rename-check-spec =
     tie.close
     (tie.spec
-    check-name-requires
-    enum-known-e
+    (λ c κs. search needs)
+    (λ c. search needs)
     returns
-    enum-told
-    entry-at-requires
+    (λ c. search needs)
+    (λ c κs. search needs)
     returns-2
     move-check-requires
     returns-3)

@@ -11,18 +11,9 @@ returns : tie.Need-returns
 unfolding showCheck
 returns c = search lines depth 25
 
-entry-at-requires : tie.Need-entry-at-requires
-entry-at-requires c κs = search needs
-
 returns-2 : tie.Need-returns-2
 unfolding showCheck
 returns-2 c = search lines depth 25
-
-inode-at-requires : tie.Need-inode-at-requires
-inode-at-requires c κs = search needs
-
-shown-name-requires : tie.Need-shown-name-requires
-shown-name-requires c κs = search needs
 
 returns-3 : tie.Need-returns-3
 unfolding showCheck
@@ -31,4 +22,4 @@ returns-3 c = search (skip, le-ltb, len-ne-via, shown-via) depth 25
 pub show-check-spec : {M : Type 1} → statement M
 show-check-spec =
     tie.close
-    (tie.spec returns entry-at-requires returns-2 inode-at-requires shown-name-requires returns-3)
+    (tie.spec returns (λ c κs. search needs) returns-2 (λ c κs. search needs) (λ c κs. search needs) returns-3)

@@ -5,22 +5,13 @@ use borrow.Author.Needs.{needs}
 use Rattle.checks.proofs.keyring.add_key_check.Statement.{statement}
 use Rattle.checks.proofs.keyring.add_key_check.Tie as tie
 
-is-bad-key-length-requires : tie.Need-is-bad-key-length-requires
-is-bad-key-length-requires c κs = search needs
-
 returns : tie.Need-returns
 unfolding addKeyCheck
 returns c = search calls depth 25
 
-key-slot-requires : tie.Need-key-slot-requires
-key-slot-requires c κs = search needs
-
 returns-2 : tie.Need-returns-2
 unfolding addKeyCheck
 returns-2 c = search calls depth 25
-
-free-key-requires : tie.Need-free-key-requires
-free-key-requires c κs = search needs
 
 returns-3 : tie.Need-returns-3
 unfolding addKeyCheck
@@ -34,10 +25,10 @@ pub add-key-check-spec : {M : Type 1} → statement M
 add-key-check-spec =
     tie.close
     (tie.spec
-    is-bad-key-length-requires
+    (λ c κs. search needs)
     returns
-    key-slot-requires
+    (λ c κs. search needs)
     returns-2
-    free-key-requires
+    (λ c κs. search needs)
     returns-3
     returns-4)

@@ -5,9 +5,6 @@ use borrow.Author.Needs.{needs}
 use Rattle.checks.proofs.keyring.remove_key_check.Statement.{statement}
 use Rattle.checks.proofs.keyring.remove_key_check.Tie as tie
 
-key-slot-requires : tie.Need-key-slot-requires
-key-slot-requires c κs = search needs
-
 returns : tie.Need-returns
 unfolding removeKeyCheck
 returns c = search calls depth 25
@@ -17,4 +14,4 @@ unfolding removeKeyCheck
 returns-2 c = search calls depth 25
 
 pub remove-key-check-spec : {M : Type 1} → statement M
-remove-key-check-spec = tie.close (tie.spec key-slot-requires returns returns-2)
+remove-key-check-spec = tie.close (tie.spec (λ c κs. search needs) returns returns-2)

@@ -7,20 +7,11 @@ use Rattle.checks.proofs.policies.first_policy_check.Tie as tie
 returns : tie.Need-returns
 returns c = search lines depth 25
 
-inode-at-requires : tie.Need-inode-at-requires
-inode-at-requires c κs = search needs
-
 returns-2 : tie.Need-returns-2
 returns-2 c = search lines depth 25
 
-has-entries-requires : tie.Need-has-entries-requires
-has-entries-requires c κs = search needs
-
 returns-3 : tie.Need-returns-3
 returns-3 c = search lines depth 25
-
-nonce-check-requires : tie.Need-nonce-check-requires
-nonce-check-requires c κs = search needs
 
 returns-4 : tie.Need-returns-4
 returns-4 c = search lines depth 25
@@ -30,9 +21,9 @@ first-policy-check-spec =
     tie.close
     (tie.spec
     returns
-    inode-at-requires
+    (λ c κs. search needs)
     returns-2
-    has-entries-requires
+    (λ c κs. search needs)
     returns-3
-    nonce-check-requires
+    (λ c κs. search needs)
     returns-4)

@@ -5,9 +5,6 @@ use borrow.Author.Needs.{needs}
 use Rattle.checks.proofs.policies.get_policy_check.Statement.{statement}
 use Rattle.checks.proofs.policies.get_policy_check.Tie as tie
 
-inode-at-requires : tie.Need-inode-at-requires
-inode-at-requires c κs = search needs
-
 returns : tie.Need-returns
 unfolding getPolicyCheck
 returns c = search lines depth 25
@@ -21,4 +18,4 @@ unfolding getPolicyCheck
 returns-3 c = search lines depth 25
 
 pub get-policy-check-spec : {M : Type 1} → statement M
-get-policy-check-spec = tie.close (tie.spec inode-at-requires returns returns-2 returns-3)
+get-policy-check-spec = tie.close (tie.spec (λ c κs. search needs) returns returns-2 returns-3)

@@ -4,9 +4,6 @@ use borrow.Author.Needs.{needs}
 use Rattle.checks.proofs.policies.same_policy_check.Statement.{statement}
 use Rattle.checks.proofs.policies.same_policy_check.Tie as tie
 
-same-policy-requires : tie.Need-same-policy-requires
-same-policy-requires c κs = search needs
-
 returns : tie.Need-returns
 returns c = search lines depth 25
 
@@ -14,4 +11,4 @@ returns-2 : tie.Need-returns-2
 returns-2 c = search lines depth 25
 
 pub same-policy-check-spec : {M : Type 1} → statement M
-same-policy-check-spec = tie.close (tie.spec same-policy-requires returns returns-2)
+same-policy-check-spec = tie.close (tie.spec (λ c κs. search needs) returns returns-2)

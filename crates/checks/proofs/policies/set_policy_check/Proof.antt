@@ -5,37 +5,19 @@ use borrow.Author.Needs.{needs}
 use Rattle.checks.proofs.policies.set_policy_check.Statement.{statement}
 use Rattle.checks.proofs.policies.set_policy_check.Tie as tie
 
-inode-at-requires : tie.Need-inode-at-requires
-inode-at-requires c κs = search needs
-
 returns : tie.Need-returns
 unfolding setPolicyCheck
 returns c = search lines depth 25
 
-read-policy-requires : tie.Need-read-policy-requires
-read-policy-requires c κs = search needs
-
-enum-known-checked : tie.Need-enum-known-checked
-enum-known-checked c = search needs
-
 returns-2 : tie.Need-returns-2
 unfolding setPolicyCheck
 returns-2 c = search lines depth 25
-
-enum-told : tie.Need-enum-told
-enum-told c = search needs
-
-same-policy-check-requires : tie.Need-same-policy-check-requires
-same-policy-check-requires c κs = search needs
 
 returns-3 : tie.Need-returns-3
 returns-3 c =
     let n = c .before .before .before .before .before .before .before .before .inode-at in
     let p = c .before .before .before .before .before .read-policy in
     policy-set _ _ _ _ (n .result) (p .result) (n .ensures) (p .ensures) (c .before .before .before .before .before .before .if1 .left) (c .before .before .before .enum-told .given .1) _ (line-so _ _ _ _ (c .before .if2 .taken) (c .same-policy-check .ensures))
-
-first-policy-check-requires : tie.Need-first-policy-check-requires
-first-policy-check-requires c κs = search needs
 
 returns-4 : tie.Need-returns-4
 returns-4 c =
@@ -47,13 +29,13 @@ pub set-policy-check-spec : {M : Type 1} → statement M
 set-policy-check-spec =
     tie.close
     (tie.spec
-    inode-at-requires
+    (λ c κs. search needs)
     returns
-    read-policy-requires
-    enum-known-checked
+    (λ c κs. search needs)
+    (λ c. search needs)
     returns-2
-    enum-told
-    same-policy-check-requires
+    (λ c. search needs)
+    (λ c κs. search needs)
     returns-3
-    first-policy-check-requires
+    (λ c κs. search needs)
     returns-4)

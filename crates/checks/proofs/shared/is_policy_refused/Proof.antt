@@ -17,13 +17,10 @@ returns-3 : tie.Need-returns-3
 unfolding isPolicyRefused
 returns-3 c = search predicates depth 25
 
-same-policy-requires : tie.Need-same-policy-requires
-same-policy-requires c κs = search needs
-
 returns-4 : tie.Need-returns-4
 unfolding isPolicyRefused
 returns-4 c = search predicates depth 25
 
 pub is-policy-refused-spec : {M : Type 1} → statement M
 is-policy-refused-spec =
-    tie.close (tie.spec returns returns-2 returns-3 same-policy-requires returns-4)
+    tie.close (tie.spec returns returns-2 returns-3 (λ c κs. search needs) returns-4)

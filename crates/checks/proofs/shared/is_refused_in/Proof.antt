@@ -3,18 +3,9 @@ use borrow.Author.Needs.{needs}
 use Rattle.checks.proofs.shared.is_refused_in.Statement.{statement}
 use Rattle.checks.proofs.shared.is_refused_in.Tie as tie
 
-inode-at-requires : tie.Need-inode-at-requires
-inode-at-requires c κs = search needs
-
-inode-at-requires-2 : tie.Need-inode-at-requires-2
-inode-at-requires-2 c κs = search needs
-
-is-policy-refused-requires : tie.Need-is-policy-refused-requires
-is-policy-refused-requires c κs = search needs
-
 returns : tie.Need-returns
 returns c = rw (← c .before .before .inode-at .ensures, ← c .before .inode-at2 .ensures) (c .is-policy-refused .ensures)
 
 pub is-refused-in-spec : {M : Type 1} → statement M
 is-refused-in-spec =
-    tie.close (tie.spec inode-at-requires inode-at-requires-2 is-policy-refused-requires returns)
+    tie.close (tie.spec (λ c κs. search needs) (λ c κs. search needs) (λ c κs. search needs) returns)

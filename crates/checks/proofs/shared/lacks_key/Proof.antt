@@ -3,14 +3,8 @@ use borrow.Author.Needs.{needs}
 use Rattle.checks.proofs.shared.lacks_key.Statement.{statement}
 use Rattle.checks.proofs.shared.lacks_key.Tie as tie
 
-inode-at-requires : tie.Need-inode-at-requires
-inode-at-requires c κs = search needs
-
-lacks-key-requires : tie.Need-lacks-key-requires
-lacks-key-requires c κs = search needs
-
 returns : tie.Need-returns
 returns c = rw (← c .before .inode-at .ensures) (c .lacks-key .ensures)
 
 pub lacks-key-spec : {M : Type 1} → statement M
-lacks-key-spec = tie.close (tie.spec inode-at-requires lacks-key-requires returns)
+lacks-key-spec = tie.close (tie.spec (λ c κs. search needs) (λ c κs. search needs) returns)

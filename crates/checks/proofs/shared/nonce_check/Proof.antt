@@ -5,9 +5,6 @@ use borrow.Author.Needs.{needs}
 use Rattle.checks.proofs.shared.nonce_check.Statement.{statement}
 use Rattle.checks.proofs.shared.nonce_check.Tie as tie
 
-is-borne-requires : tie.Need-is-borne-requires
-is-borne-requires c κs = search needs
-
 returns : tie.Need-returns
 unfolding nonceCheck
 returns c = search lines depth 25
@@ -17,4 +14,4 @@ unfolding nonceCheck
 returns-2 c = search lines depth 25
 
 pub nonce-check-spec : {M : Type 1} → statement M
-nonce-check-spec = tie.close (tie.spec is-borne-requires returns returns-2)
+nonce-check-spec = tie.close (tie.spec (λ c κs. search needs) returns returns-2)

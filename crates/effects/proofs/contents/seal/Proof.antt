@@ -5,17 +5,8 @@ use borrow.Author.Needs.{needs}
 use Rattle.effects.proofs.contents.seal.Statement.{statement}
 use Rattle.effects.proofs.contents.seal.Tie as tie
 
-inode-at-requires : tie.Need-inode-at-requires
-inode-at-requires c κs = search needs
-
 derived-key-requires : tie.Need-derived-key-requires
 derived-key-requires c κs = let s = c .before .before in key-there _ _ _ (c .inode-at .ensures) (s .pre .0) (s .pre .1)
-
-seal-block-requires : tie.Need-seal-block-requires
-seal-block-requires c κs = search needs
-
-same-length : tie.Need-same-length
-same-length c = search needs
 
 returns : tie.Need-returns
 returns c =
@@ -26,4 +17,4 @@ returns c =
 pub seal-spec : {M : Type 1} → statement M
 seal-spec =
     tie.close
-    (tie.spec inode-at-requires derived-key-requires seal-block-requires same-length returns)
+    (tie.spec (λ c κs. search needs) derived-key-requires (λ c κs. search needs) (λ c. search needs) returns)

@@ -10,9 +10,6 @@ use Rattle.fscrypt.proofs.Shape.{name-sized, cut-length}
 use Rattle.effects.proofs.directory.copy_name.Statement.{statement}
 use Rattle.effects.proofs.directory.copy_name.Tie as tie
 
-cast-len : tie.Need-cast-len
-cast-len c = search needs
-
 array-share-prefix-bytes : tie.Need-array-share-prefix-bytes
 array-share-prefix-bytes c =
     let s = c .before .before .before .before in
@@ -31,9 +28,6 @@ copy-to-requires c κs =
     let h = name-sized (s .args .n) (s .good .1 .0) in
     omega (arith, cut-length h)
 
-same-length : tie.Need-same-length
-same-length c = search needs
-
 returns : tie.Need-returns
 returns c =
     let s = c .before .before .before .before .before .before .before .before in
@@ -44,9 +38,9 @@ pub copy-name-spec : {M : Type 1} → statement M
 copy-name-spec =
     tie.close
     (tie.spec
-    cast-len
+    (λ c. search needs)
     array-share-prefix-bytes
     slice-aggregate-copy-to
     copy-to-requires
-    same-length
+    (λ c. search needs)
     returns)

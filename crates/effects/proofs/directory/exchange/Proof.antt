@@ -5,24 +5,6 @@ use borrow.Author.Needs.{needs}
 use Rattle.effects.proofs.directory.exchange.Statement.{statement}
 use Rattle.effects.proofs.directory.exchange.Tie as tie
 
-entry-at-requires : tie.Need-entry-at-requires
-entry-at-requires c κs = search needs
-
-entry-at-requires-2 : tie.Need-entry-at-requires-2
-entry-at-requires-2 c κs = search needs
-
-with-inode-requires : tie.Need-with-inode-requires
-with-inode-requires c κs = search needs
-
-put-entry-requires : tie.Need-put-entry-requires
-put-entry-requires c κs = search needs
-
-with-inode-requires-2 : tie.Need-with-inode-requires-2
-with-inode-requires-2 c κs = search needs
-
-put-entry-requires-2 : tie.Need-put-entry-requires-2
-put-entry-requires-2 c κs = search needs
-
 returns : tie.Need-returns
 returns c =
     let one = c .before .before .before .before .before .entry-at in
@@ -37,10 +19,10 @@ pub exchange-spec : {M : Type 1} → statement M
 exchange-spec =
     tie.close
     (tie.spec
-    entry-at-requires
-    entry-at-requires-2
-    with-inode-requires
-    put-entry-requires
-    with-inode-requires-2
-    put-entry-requires-2
+    (λ c κs. search needs)
+    (λ c κs. search needs)
+    (λ c κs. search needs)
+    (λ c κs. search needs)
+    (λ c κs. search needs)
+    (λ c κs. search needs)
     returns)

@@ -5,11 +5,8 @@ use borrow.Author.Needs.{needs}
 use Rattle.effects.proofs.directory.find.Statement.{statement}
 use Rattle.effects.proofs.directory.find.Tie as tie
 
-entry-of-requires : tie.Need-entry-of-requires
-entry-of-requires c κs = search needs
-
 returns : tie.Need-returns
 returns c = find-acts fscrypt _ _ _ _ (c .entry-of .ensures)
 
 pub find-spec : {M : Type 1} → statement M
-find-spec = tie.close (tie.spec entry-of-requires returns)
+find-spec = tie.close (tie.spec (λ c κs. search needs) returns)

@@ -9,9 +9,6 @@ use Rattle.effects.proofs.directory.form_in.Tie as tie
 returns : tie.Need-returns
 returns c = form-plain _ _ (not-true _ (c .if1 .taken))
 
-key-present-requires : tie.Need-key-present-requires
-key-present-requires c κs = search needs
-
 returns-2 : tie.Need-returns-2
 returns-2 c = form-decrypted _ _ (not-false _ (c .before .before .if1 .left)) (sym (c .before .key-present .ensures) ∙ c .if2 .taken)
 
@@ -19,4 +16,4 @@ returns-3 : tie.Need-returns-3
 returns-3 c = form-encoded _ _ (not-false _ (c .before .before .if1 .left)) (sym (c .before .key-present .ensures) ∙ c .if2 .left)
 
 pub form-in-spec : {M : Type 1} → statement M
-form-in-spec = tie.close (tie.spec returns key-present-requires returns-2 returns-3)
+form-in-spec = tie.close (tie.spec returns (λ c κs. search needs) returns-2 returns-3)

@@ -5,15 +5,6 @@ use borrow.Author.Needs.{needs}
 use Rattle.effects.proofs.directory.link.Statement.{statement}
 use Rattle.effects.proofs.directory.link.Tie as tie
 
-free-entry-requires : tie.Need-free-entry-requires
-free-entry-requires c κs = search needs
-
-stored-entry-requires : tie.Need-stored-entry-requires
-stored-entry-requires c κs = search needs
-
-put-entry-requires : tie.Need-put-entry-requires
-put-entry-requires c κs = search needs
-
 returns : tie.Need-returns
 returns c =
     let k = c .before .before .free-entry in
@@ -22,4 +13,4 @@ returns c =
 
 pub link-spec : {M : Type 1} → statement M
 link-spec =
-    tie.close (tie.spec free-entry-requires stored-entry-requires put-entry-requires returns)
+    tie.close (tie.spec (λ c κs. search needs) (λ c κs. search needs) (λ c κs. search needs) returns)

@@ -5,25 +5,10 @@ use borrow.Author.Needs.{needs}
 use Rattle.effects.proofs.directory.new_inode.Statement.{statement}
 use Rattle.effects.proofs.directory.new_inode.Tie as tie
 
-is-nonce-needed-requires : tie.Need-is-nonce-needed-requires
-is-nonce-needed-requires c κs = search needs
-
-no-inode-requires : tie.Need-no-inode-requires
-no-inode-requires c κs = search needs
-
-cast-plain : tie.Need-cast-plain
-cast-plain c = search needs
-
 returns : tie.Need-returns
 returns c =
     let t = c .before .before .is-nonce-needed in
     child-plain _ _ _ (t .result) (t .ensures) (c .no-inode .result) (not-true _ (c .before .if1 .taken)) (c .no-inode .ensures)
-
-cast-encrypted-inode : tie.Need-cast-encrypted-inode
-cast-encrypted-inode c = search needs
-
-encrypted-inode-requires : tie.Need-encrypted-inode-requires
-encrypted-inode-requires c κs = search needs
 
 returns-2 : tie.Need-returns-2
 returns-2 c =
@@ -35,10 +20,10 @@ pub new-inode-spec : {M : Type 1} → statement M
 new-inode-spec =
     tie.close
     (tie.spec
-    is-nonce-needed-requires
-    no-inode-requires
-    cast-plain
+    (λ c κs. search needs)
+    (λ c κs. search needs)
+    (λ c. search needs)
     returns
-    cast-encrypted-inode
-    encrypted-inode-requires
+    (λ c. search needs)
+    (λ c κs. search needs)
     returns-2)

@@ -5,18 +5,6 @@ use borrow.Author.Needs.{needs}
 use Rattle.effects.proofs.directory.remove.Statement.{statement}
 use Rattle.effects.proofs.directory.remove.Tie as tie
 
-entry-at-requires : tie.Need-entry-at-requires
-entry-at-requires c κs = search needs
-
-no-entry-requires : tie.Need-no-entry-requires
-no-entry-requires c κs = search needs
-
-put-entry-requires : tie.Need-put-entry-requires
-put-entry-requires c κs = search needs
-
-without-unheld-requires : tie.Need-without-unheld-requires
-without-unheld-requires c κs = search needs
-
 returns : tie.Need-returns
 returns c =
     let e = c .before .before .before .entry-at in
@@ -28,8 +16,8 @@ pub remove-spec : {M : Type 1} → statement M
 remove-spec =
     tie.close
     (tie.spec
-    entry-at-requires
-    no-entry-requires
-    put-entry-requires
-    without-unheld-requires
+    (λ c κs. search needs)
+    (λ c κs. search needs)
+    (λ c κs. search needs)
+    (λ c κs. search needs)
     returns)

@@ -5,15 +5,6 @@ use borrow.Author.Needs.{needs}
 use Rattle.effects.proofs.directory.rename.Statement.{statement}
 use Rattle.effects.proofs.directory.rename.Tie as tie
 
-entry-at-requires : tie.Need-entry-at-requires
-entry-at-requires c κs = search needs
-
-stored-entry-requires : tie.Need-stored-entry-requires
-stored-entry-requires c κs = search needs
-
-put-entry-requires : tie.Need-put-entry-requires
-put-entry-requires c κs = search needs
-
 returns : tie.Need-returns
 returns c =
     let o = c .before .before .entry-at in
@@ -22,4 +13,4 @@ returns c =
 
 pub rename-spec : {M : Type 1} → statement M
 rename-spec =
-    tie.close (tie.spec entry-at-requires stored-entry-requires put-entry-requires returns)
+    tie.close (tie.spec (λ c κs. search needs) (λ c κs. search needs) (λ c κs. search needs) returns)

@@ -5,27 +5,6 @@ use borrow.Author.Needs.{needs}
 use Rattle.effects.proofs.directory.show.Statement.{statement}
 use Rattle.effects.proofs.directory.show.Tie as tie
 
-entry-at-requires : tie.Need-entry-at-requires
-entry-at-requires c κs = search needs
-
-inode-at-requires : tie.Need-inode-at-requires
-inode-at-requires c κs = search needs
-
-shown-name-requires : tie.Need-shown-name-requires
-shown-name-requires c κs = search needs
-
-copy-name-requires : tie.Need-copy-name-requires
-copy-name-requires c κs = search needs
-
-inode-at-requires-2 : tie.Need-inode-at-requires-2
-inode-at-requires-2 c κs = search needs
-
-form-in-requires : tie.Need-form-in-requires
-form-in-requires c κs = search needs
-
-same-length : tie.Need-same-length
-same-length c = search needs
-
 returns : tie.Need-returns
 returns c =
     let k = c .before .before .before .before .before .before .before in
@@ -38,11 +17,11 @@ pub show-spec : {M : Type 1} → statement M
 show-spec =
     tie.close
     (tie.spec
-    entry-at-requires
-    inode-at-requires
-    shown-name-requires
-    copy-name-requires
-    inode-at-requires-2
-    form-in-requires
-    same-length
+    (λ c κs. search needs)
+    (λ c κs. search needs)
+    (λ c κs. search needs)
+    (λ c κs. search needs)
+    (λ c κs. search needs)
+    (λ c κs. search needs)
+    (λ c. search needs)
     returns)

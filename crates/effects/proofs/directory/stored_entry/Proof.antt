@@ -7,14 +7,8 @@ use borrow.Author.Needs.{needs}
 use Rattle.effects.proofs.directory.stored_entry.Statement.{statement}
 use Rattle.effects.proofs.directory.stored_entry.Tie as tie
 
-inode-at-requires : tie.Need-inode-at-requires
-inode-at-requires c κs = search needs
-
 stored-name-requires : tie.Need-stored-name-requires
 stored-name-requires c κs = (c .before .before .pre .0, ap (lacksKey _) (c .inode-at .ensures) ∙ c .before .before .pre .1)
-
-new-entry-requires : tie.Need-new-entry-requires
-new-entry-requires c κs = search needs
 
 returns : tie.Need-returns
 returns c =
@@ -24,4 +18,4 @@ returns c =
 
 pub stored-entry-spec : {M : Type 1} → statement M
 stored-entry-spec =
-    tie.close (tie.spec inode-at-requires stored-name-requires new-entry-requires returns)
+    tie.close (tie.spec (λ c κs. search needs) stored-name-requires (λ c κs. search needs) returns)

@@ -4,17 +4,8 @@ use borrow.Author.Needs.{needs}
 use Rattle.effects.proofs.directory.without_unheld.Statement.{statement}
 use Rattle.effects.proofs.directory.without_unheld.Tie as tie
 
-is-held-requires : tie.Need-is-held-requires
-is-held-requires c κs = search needs
-
 returns : tie.Need-returns
 returns c = let t = c .before .is-held in held-kept _ _ (t .result) (t .ensures) (c .if1 .taken)
-
-no-inode-requires : tie.Need-no-inode-requires
-no-inode-requires c κs = search needs
-
-put-inode-requires : tie.Need-put-inode-requires
-put-inode-requires c κs = search needs
 
 returns-2 : tie.Need-returns-2
 returns-2 c =
@@ -23,4 +14,4 @@ returns-2 c =
 
 pub without-unheld-spec : {M : Type 1} → statement M
 without-unheld-spec =
-    tie.close (tie.spec is-held-requires returns no-inode-requires put-inode-requires returns-2)
+    tie.close (tie.spec (λ c κs. search needs) returns (λ c κs. search needs) (λ c κs. search needs) returns-2)

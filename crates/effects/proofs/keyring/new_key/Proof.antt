@@ -8,17 +8,8 @@ use Rattle.effects.proofs.Acting.{key-laid}
 use Rattle.effects.proofs.keyring.new_key.Statement.{statement}
 use Rattle.effects.proofs.keyring.new_key.Tie as tie
 
-no-key-requires : tie.Need-no-key-requires
-no-key-requires c κs = search needs
-
-slice-aggregate-copy-to : tie.Need-slice-aggregate-copy-to
-slice-aggregate-copy-to c = search needs
-
 copy-to-requires : tie.Need-copy-to-requires
 copy-to-requires c κs = let z : length (c .before .before .no-key .result .bytes) ≡ 64 = search needs in omega arith
-
-cast-t9 : tie.Need-cast-t9
-cast-t9 c = search needs
 
 returns : tie.Need-returns
 returns c =
@@ -30,4 +21,4 @@ returns c =
 pub new-key-spec : {M : Type 1} → statement M
 new-key-spec =
     tie.close
-    (tie.spec no-key-requires slice-aggregate-copy-to copy-to-requires cast-t9 returns)
+    (tie.spec (λ c κs. search needs) (λ c. search needs) copy-to-requires (λ c. search needs) returns)

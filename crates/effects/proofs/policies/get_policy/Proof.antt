@@ -5,14 +5,8 @@ use borrow.Author.Needs.{needs}
 use Rattle.effects.proofs.policies.get_policy.Statement.{statement}
 use Rattle.effects.proofs.policies.get_policy.Tie as tie
 
-inode-at-requires : tie.Need-inode-at-requires
-inode-at-requires c κs = search needs
-
-policy-bytes-requires : tie.Need-policy-bytes-requires
-policy-bytes-requires c κs = search needs
-
 returns : tie.Need-returns
 returns c = let n = c .before .before .before .inode-at in get-policy-acts fscrypt _ _ (n .result) _ (n .ensures) (c .policy-bytes .ensures)
 
 pub get-policy-spec : {M : Type 1} → statement M
-get-policy-spec = tie.close (tie.spec inode-at-requires policy-bytes-requires returns)
+get-policy-spec = tie.close (tie.spec (λ c κs. search needs) (λ c κs. search needs) returns)

@@ -5,20 +5,8 @@ use borrow.Author.Needs.{needs}
 use Rattle.effects.proofs.policies.set_policy.Statement.{statement}
 use Rattle.effects.proofs.policies.set_policy.Tie as tie
 
-inode-at-requires : tie.Need-inode-at-requires
-inode-at-requires c κs = search needs
-
 returns : tie.Need-returns
 returns c = let n = c .before .inode-at in policy-kept fscrypt _ _ _ _ (n .result) (n .ensures) (c .if1 .taken)
-
-read-policy-requires : tie.Need-read-policy-requires
-read-policy-requires c κs = search needs
-
-encrypted-inode-requires : tie.Need-encrypted-inode-requires
-encrypted-inode-requires c κs = search needs
-
-put-inode-requires : tie.Need-put-inode-requires
-put-inode-requires c κs = search needs
 
 returns-2 : tie.Need-returns-2
 returns-2 c =
@@ -31,9 +19,9 @@ pub set-policy-spec : {M : Type 1} → statement M
 set-policy-spec =
     tie.close
     (tie.spec
-    inode-at-requires
+    (λ c κs. search needs)
     returns
-    read-policy-requires
-    encrypted-inode-requires
-    put-inode-requires
+    (λ c κs. search needs)
+    (λ c κs. search needs)
+    (λ c κs. search needs)
     returns-2)

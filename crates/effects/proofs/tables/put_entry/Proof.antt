@@ -6,15 +6,6 @@ use borrow.Author.Needs.{needs}
 use Rattle.effects.proofs.tables.put_entry.Statement.{statement}
 use Rattle.effects.proofs.tables.put_entry.Tie as tie
 
-mul-e : tie.Need-mul-e
-mul-e c = search needs
-
-element-set-from-e : tie.Need-element-set-from-e
-element-set-from-e c = search needs
-
-returns : tie.Need-returns
-returns c = search needs
-
 returns-2 : tie.Need-returns-2
 returns-2 c =
     let s = c .before .before in
@@ -22,4 +13,4 @@ returns-2 c =
     entry-past _ _ _ (omega arith)
 
 pub put-entry-spec : {M : Type 1} → statement M
-put-entry-spec = tie.close (tie.spec mul-e element-set-from-e returns returns-2)
+put-entry-spec = tie.close (tie.spec (λ c. search needs) (λ c. search needs) (λ c. search needs) returns-2)

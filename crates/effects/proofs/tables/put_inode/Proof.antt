@@ -6,15 +6,6 @@ use borrow.Author.Needs.{needs}
 use Rattle.effects.proofs.tables.put_inode.Statement.{statement}
 use Rattle.effects.proofs.tables.put_inode.Tie as tie
 
-mul-node : tie.Need-mul-node
-mul-node c = search needs
-
-element-set-from-node : tie.Need-element-set-from-node
-element-set-from-node c = search needs
-
-returns : tie.Need-returns
-returns c = search needs
-
 returns-2 : tie.Need-returns-2
 returns-2 c =
     let s = c .before .before in
@@ -22,4 +13,4 @@ returns-2 c =
     inode-past _ _ _ (omega arith)
 
 pub put-inode-spec : {M : Type 1} → statement M
-put-inode-spec = tie.close (tie.spec mul-node element-set-from-node returns returns-2)
+put-inode-spec = tie.close (tie.spec (λ c. search needs) (λ c. search needs) (λ c. search needs) returns-2)

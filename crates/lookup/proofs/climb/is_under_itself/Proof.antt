@@ -6,24 +6,9 @@ use borrow.Author.Needs.{needs}
 use Rattle.lookup.proofs.climb.is_under_itself.Statement.{statement}
 use Rattle.lookup.proofs.climb.is_under_itself.Tie as tie
 
-inode-at-requires : tie.Need-inode-at-requires
-inode-at-requires c κs = search needs
-
 returns : tie.Need-returns
 unfolding isUnderItself
 returns c = rw (← c .before .before .inode-at .ensures) (search predicates depth 12)
-
-climb-requires : tie.Need-climb-requires
-climb-requires c κs = search needs
-
-enum-told : tie.Need-enum-told
-enum-told c = search needs
-
-enum-told-2 : tie.Need-enum-told-2
-enum-told-2 c = search needs
-
-enum-told-3 : tie.Need-enum-told-3
-enum-told-3 c = search needs
 
 returns-2 : tie.Need-returns-2
 unfolding isUnderItself
@@ -47,12 +32,12 @@ pub is-under-itself-spec : {M : Type 1} → statement M
 is-under-itself-spec =
     tie.close
     (tie.spec
-    inode-at-requires
+    (λ c κs. search needs)
     returns
-    climb-requires
-    enum-told
-    enum-told-2
-    enum-told-3
+    (λ c κs. search needs)
+    (λ c. search needs)
+    (λ c. search needs)
+    (λ c. search needs)
     returns-2
     returns-3
     returns-4)

@@ -12,15 +12,6 @@ use borrow.Author.Needs.{needs}
 use Rattle.lookup.proofs.climb.parent_of.Statement.{statement}
 use Rattle.lookup.proofs.climb.parent_of.Tie as tie
 
-first-link-requires : tie.Need-first-link-requires
-first-link-requires c κs = search needs
-
-mul-e : tie.Need-mul-e
-mul-e c = search needs
-
-element-copy-out-e : tie.Need-element-copy-out-e
-element-copy-out-e c = search needs
-
 returns : tie.Need-returns
 unfolding parentOf
 returns c =
@@ -40,4 +31,4 @@ returns-2 c =
 
 pub parent-of-spec : {M : Type 1} → statement M
 parent-of-spec =
-    tie.close (tie.spec first-link-requires mul-e element-copy-out-e returns returns-2)
+    tie.close (tie.spec (λ c κs. search needs) (λ c. search needs) (λ c. search needs) returns returns-2)

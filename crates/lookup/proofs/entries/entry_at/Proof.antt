@@ -9,20 +9,11 @@ use borrow.Author.Needs.{needs}
 use Rattle.lookup.proofs.entries.entry_at.Statement.{statement}
 use Rattle.lookup.proofs.entries.entry_at.Tie as tie
 
-mul-result : tie.Need-mul-result
-mul-result c = search needs
-
-element-copy-out-result : tie.Need-element-copy-out-result
-element-copy-out-result c = search needs
-
 returns : tie.Need-returns
 returns c =
     let s = c .before .before .before in
     let k = shaped (s .args .t1) (s .good .0) .entries in
     getD-any (s .args .t1 .entries) (s .args .n .0) _ _ (omega arith)
-
-no-entry-requires : tie.Need-no-entry-requires
-no-entry-requires c κs = search needs
 
 returns-2 : tie.Need-returns-2
 returns-2 c =
@@ -32,4 +23,4 @@ returns-2 c =
 
 pub entry-at-spec : {M : Type 1} → statement M
 entry-at-spec =
-    tie.close (tie.spec mul-result element-copy-out-result returns no-entry-requires returns-2)
+    tie.close (tie.spec (λ c. search needs) (λ c. search needs) returns (λ c κs. search needs) returns-2)

@@ -7,11 +7,8 @@ use borrow.Author.Needs.{needs}
 use Rattle.lookup.proofs.entries.has_entries.Statement.{statement}
 use Rattle.lookup.proofs.entries.has_entries.Tie as tie
 
-first-child-requires : tie.Need-first-child-requires
-first-child-requires c κs = search needs
-
 returns : tie.Need-returns
 returns c = ap (λ (n : ℕ). ltb n entrySlots) (c .first-child .ensures)
 
 pub has-entries-spec : {M : Type 1} → statement M
-has-entries-spec = tie.close (tie.spec first-child-requires returns)
+has-entries-spec = tie.close (tie.spec (λ c κs. search needs) returns)

@@ -7,11 +7,8 @@ use borrow.Author.Needs.{needs}
 use Rattle.lookup.proofs.entries.is_held.Statement.{statement}
 use Rattle.lookup.proofs.entries.is_held.Tie as tie
 
-first-link-requires : tie.Need-first-link-requires
-first-link-requires c κs = search needs
-
 returns : tie.Need-returns
 returns c = ap (λ (n : ℕ). ltb n entrySlots) (c .first-link .ensures)
 
 pub is-held-spec : {M : Type 1} → statement M
-is-held-spec = tie.close (tie.spec first-link-requires returns)
+is-held-spec = tie.close (tie.spec (λ c κs. search needs) returns)

@@ -6,17 +6,11 @@ use borrow.Author.Needs.{needs}
 use Rattle.lookup.proofs.entries.is_named.Statement.{statement}
 use Rattle.lookup.proofs.entries.is_named.Tie as tie
 
-is-in-requires : tie.Need-is-in-requires
-is-in-requires c κs = search needs
-
 returns : tie.Need-returns
 returns c = and-stop _ _ (sym (c .before .is-in .ensures) ∙ not-true _ (c .if1 .taken))
-
-same-name-requires : tie.Need-same-name-requires
-same-name-requires c κs = search needs
 
 returns-2 : tie.Need-returns-2
 returns-2 c = and-go _ _ _ (sym (c .before .before .is-in .ensures) ∙ not-false _ (c .before .if1 .left)) (c .same-name .ensures)
 
 pub is-named-spec : {M : Type 1} → statement M
-is-named-spec = tie.close (tie.spec is-in-requires returns same-name-requires returns-2)
+is-named-spec = tie.close (tie.spec (λ c κs. search needs) returns (λ c κs. search needs) returns-2)

@@ -3,11 +3,8 @@ use borrow.Author.Needs.{needs}
 use Rattle.lookup.proofs.entries.no_entry.Statement.{statement}
 use Rattle.lookup.proofs.entries.no_entry.Tie as tie
 
-zeros255-requires : tie.Need-zeros255-requires
-zeros255-requires c κs = search needs
-
 returns : tie.Need-returns
 returns c = cc
 
 pub no-entry-spec : {M : Type 1} → statement M
-no-entry-spec = tie.close (tie.spec zeros255-requires returns)
+no-entry-spec = tie.close (tie.spec (λ c κs. search needs) returns)

@@ -8,12 +8,6 @@ use borrow.Author.Needs.{needs}
 use Rattle.lookup.proofs.entries.same_name.Statement.{statement}
 use Rattle.lookup.proofs.entries.same_name.Tie as tie
 
-cast-m : tie.Need-cast-m
-cast-m c = search needs
-
-cast-n : tie.Need-cast-n
-cast-n c = search needs
-
 array-share-prefix-a : tie.Need-array-share-prefix-a
 array-share-prefix-a c =
     let s = c .before .before .before .before in
@@ -38,21 +32,15 @@ slice-aggregate-same-bytes-2 c =
     let h = name-sized (s .args .s) (s .good .1 .0) in
     sym (length-take-le _ _ (omega arith))
 
-same-bytes-requires : tie.Need-same-bytes-requires
-same-bytes-requires c κs = search needs
-
-returns : tie.Need-returns
-returns c = search needs
-
 pub same-name-spec : {M : Type 1} → statement M
 same-name-spec =
     tie.close
     (tie.spec
-    cast-m
-    cast-n
+    (λ c. search needs)
+    (λ c. search needs)
     array-share-prefix-a
     slice-aggregate-same-bytes
     array-share-prefix-b
     slice-aggregate-same-bytes-2
-    same-bytes-requires
-    returns)
+    (λ c κs. search needs)
+    (λ c. search needs))

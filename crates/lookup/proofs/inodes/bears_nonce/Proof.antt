@@ -9,15 +9,6 @@ returns : tie.Need-returns
 unfolding bearsNonce
 returns c = search predicates depth 12
 
-slice-aggregate-same-bytes : tie.Need-slice-aggregate-same-bytes
-slice-aggregate-same-bytes c = search needs
-
-slice-aggregate-same-bytes-2 : tie.Need-slice-aggregate-same-bytes-2
-slice-aggregate-same-bytes-2 c = search needs
-
-same-bytes-requires : tie.Need-same-bytes-requires
-same-bytes-requires c κs = search needs
-
 returns-2 : tie.Need-returns-2
 unfolding bearsNonce
 returns-2 c = search predicates depth 12
@@ -25,4 +16,4 @@ returns-2 c = search predicates depth 12
 pub bears-nonce-spec : {M : Type 1} → statement M
 bears-nonce-spec =
     tie.close
-    (tie.spec returns slice-aggregate-same-bytes slice-aggregate-same-bytes-2 same-bytes-requires returns-2)
+    (tie.spec returns (λ c. search needs) (λ c. search needs) (λ c κs. search needs) returns-2)

@@ -9,20 +9,11 @@ use borrow.Author.Needs.{needs}
 use Rattle.lookup.proofs.inodes.inode_at.Statement.{statement}
 use Rattle.lookup.proofs.inodes.inode_at.Tie as tie
 
-mul-result : tie.Need-mul-result
-mul-result c = search needs
-
-element-copy-out-result : tie.Need-element-copy-out-result
-element-copy-out-result c = search needs
-
 returns : tie.Need-returns
 returns c =
     let s = c .before .before .before in
     let k = shaped (s .args .t1) (s .good .0) .inodes in
     getD-any (s .args .t1 .inodes) (s .args .n .0) _ _ (omega arith)
-
-no-inode-requires : tie.Need-no-inode-requires
-no-inode-requires c κs = search needs
 
 returns-2 : tie.Need-returns-2
 returns-2 c =
@@ -32,4 +23,4 @@ returns-2 c =
 
 pub inode-at-spec : {M : Type 1} → statement M
 inode-at-spec =
-    tie.close (tie.spec mul-result element-copy-out-result returns no-inode-requires returns-2)
+    tie.close (tie.spec (λ c. search needs) (λ c. search needs) returns (λ c κs. search needs) returns-2)

@@ -7,11 +7,8 @@ use borrow.Author.Needs.{needs}
 use Rattle.lookup.proofs.inodes.is_borne.Statement.{statement}
 use Rattle.lookup.proofs.inodes.is_borne.Tie as tie
 
-nonce-holder-requires : tie.Need-nonce-holder-requires
-nonce-holder-requires c κs = search needs
-
 returns : tie.Need-returns
 returns c = ap (λ (n : ℕ). ltb n inodeSlots) (c .nonce-holder .ensures)
 
 pub is-borne-spec : {M : Type 1} → statement M
-is-borne-spec = tie.close (tie.spec nonce-holder-requires returns)
+is-borne-spec = tie.close (tie.spec (λ c κs. search needs) returns)

@@ -9,12 +9,9 @@ returns : tie.Need-returns
 unfolding isNonceNeeded
 returns c = search predicates depth 25
 
-cast-result : tie.Need-cast-result
-cast-result c = search needs
-
 returns-2 : tie.Need-returns-2
 unfolding isNonceNeeded
 returns-2 c = search predicates depth 25
 
 pub is-nonce-needed-spec : {M : Type 1} → statement M
-is-nonce-needed-spec = tie.close (tie.spec returns cast-result returns-2)
+is-nonce-needed-spec = tie.close (tie.spec returns (λ c. search needs) returns-2)

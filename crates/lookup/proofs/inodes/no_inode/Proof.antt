@@ -3,11 +3,8 @@ use borrow.Author.Needs.{needs}
 use Rattle.lookup.proofs.inodes.no_inode.Statement.{statement}
 use Rattle.lookup.proofs.inodes.no_inode.Tie as tie
 
-no-context-requires : tie.Need-no-context-requires
-no-context-requires c κs = search needs
-
 returns : tie.Need-returns
 returns c = cc
 
 pub no-inode-spec : {M : Type 1} → statement M
-no-inode-spec = tie.close (tie.spec no-context-requires returns)
+no-inode-spec = tie.close (tie.spec (λ c κs. search needs) returns)

@@ -11,15 +11,6 @@ use borrow.Author.Needs.{needs}
 use Rattle.lookup.proofs.keyring.key_of.Statement.{statement}
 use Rattle.lookup.proofs.keyring.key_of.Tie as tie
 
-key-slot-requires : tie.Need-key-slot-requires
-key-slot-requires c κs = search needs
-
-mul-result : tie.Need-mul-result
-mul-result c = search needs
-
-element-copy-out-result : tie.Need-element-copy-out-result
-element-copy-out-result c = search needs
-
 returns : tie.Need-returns
 unfolding keyOf
 returns c =
@@ -28,9 +19,6 @@ returns c =
     let f = c .before .before .key-slot in
     getD-any (s .args .t1 .keys) (f .result) _ noKey (omega arith)
     ∙ ap (λ (n : ℕ). getD (s .args .t1 .keys) n noKey) (f .ensures)
-
-no-key-requires : tie.Need-no-key-requires
-no-key-requires c κs = search needs
 
 returns-2 : tie.Need-returns-2
 unfolding keyOf
@@ -45,9 +33,9 @@ pub key-of-spec : {M : Type 1} → statement M
 key-of-spec =
     tie.close
     (tie.spec
-    key-slot-requires
-    mul-result
-    element-copy-out-result
+    (λ c κs. search needs)
+    (λ c. search needs)
+    (λ c. search needs)
     returns
-    no-key-requires
+    (λ c κs. search needs)
     returns-2)

@@ -9,12 +9,9 @@ returns : tie.Need-returns
 unfolding lacksKey
 returns c = search predicates depth 12
 
-key-present-requires : tie.Need-key-present-requires
-key-present-requires c κs = search needs
-
 returns-2 : tie.Need-returns-2
 unfolding lacksKey
 returns-2 c = search predicates depth 12
 
 pub lacks-key-spec : {M : Type 1} → statement M
-lacks-key-spec = tie.close (tie.spec returns key-present-requires returns-2)
+lacks-key-spec = tie.close (tie.spec returns (λ c κs. search needs) returns-2)

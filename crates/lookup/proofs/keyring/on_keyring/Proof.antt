@@ -7,19 +7,10 @@ use Rattle.lookup.proofs.keyring.on_keyring.Tie as tie
 returns : tie.Need-returns
 returns c = search predicates depth 12
 
-slice-aggregate-same-bytes : tie.Need-slice-aggregate-same-bytes
-slice-aggregate-same-bytes c = search needs
-
-slice-aggregate-same-bytes-2 : tie.Need-slice-aggregate-same-bytes-2
-slice-aggregate-same-bytes-2 c = search needs
-
-same-bytes-requires : tie.Need-same-bytes-requires
-same-bytes-requires c κs = search needs
-
 returns-2 : tie.Need-returns-2
 returns-2 c = search predicates depth 12
 
 pub on-keyring-spec : {M : Type 1} → statement M
 on-keyring-spec =
     tie.close
-    (tie.spec returns slice-aggregate-same-bytes slice-aggregate-same-bytes-2 same-bytes-requires returns-2)
+    (tie.spec returns (λ c. search needs) (λ c. search needs) (λ c κs. search needs) returns-2)

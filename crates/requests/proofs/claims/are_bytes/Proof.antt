@@ -3,11 +3,8 @@ use borrow.Author.Needs.{needs}
 use Rattle.requests.proofs.claims.are_bytes.Statement.{statement}
 use Rattle.requests.proofs.claims.are_bytes.Tie as tie
 
-nothing-requires : tie.Need-nothing-requires
-nothing-requires c κs = search needs
-
 returns : tie.Need-returns
 returns c = λ j. (c .before .shared-slice-known .given j) .fits
 
 pub are-bytes-spec : {M : Type 1} → statement M
-are-bytes-spec = tie.close (tie.spec nothing-requires returns)
+are-bytes-spec = tie.close (tie.spec (λ c κs. search needs) returns)

@@ -6,21 +6,6 @@ use borrow.Author.Needs.{needs}
 use Rattle.requests.proofs.claims.every_request_is_typed.Statement.{statement}
 use Rattle.requests.proofs.claims.every_request_is_typed.Tie as tie
 
-slice-aggregate-are-bytes : tie.Need-slice-aggregate-are-bytes
-slice-aggregate-are-bytes c = search needs
-
-are-bytes-requires : tie.Need-are-bytes-requires
-are-bytes-requires c κs = search needs
-
-slice-aggregate-are-bytes-2 : tie.Need-slice-aggregate-are-bytes-2
-slice-aggregate-are-bytes-2 c = search needs
-
-are-bytes-requires-2 : tie.Need-are-bytes-requires-2
-are-bytes-requires-2 c κs = search needs
-
-are-bytes-requires-3 : tie.Need-are-bytes-requires-3
-are-bytes-requires-3 c κs = search needs
-
 returns : tie.Need-returns
 returns c =
     let s = c .before .before .before .before .before .before in
@@ -32,9 +17,9 @@ pub every-request-is-typed-spec : {M : Type 1} → statement M
 every-request-is-typed-spec =
     tie.close
     (tie.spec
-    slice-aggregate-are-bytes
-    are-bytes-requires
-    slice-aggregate-are-bytes-2
-    are-bytes-requires-2
-    are-bytes-requires-3
+    (λ c. search needs)
+    (λ c κs. search needs)
+    (λ c. search needs)
+    (λ c κs. search needs)
+    (λ c κs. search needs)
     returns)
