@@ -1,6 +1,6 @@
 -- What the entries test, and what they answer then: which lengths are taken, and that the answer and the buffer are those of the definition.
 -- Assumes nothing.
-use mathlib.Core.Path.{_≡_, refl}
+use mathlib.Core.Path.{_≡_, refl, ap}
 use mathlib.Core.Bool.{Bool, true, false, _&&_, _||_}
 use mathlib.Core.List.{List}
 use mathlib.Core.Logic.{_⊎_, inl, inr, ⊎-elim}
@@ -10,8 +10,7 @@ use borrow.Author.Tests.{eqb-true, leb-true}
 use lib.Dec.{eqb, leb}
 use Rattle.lists.proofs.Tests.{and-left, and-right}
 use Rattle.aes.specs.KeyExpansion.{KeySize}
-use Rattle.ciphers.specs.Entries.{answer, ctsFits, xtsFits, ecbFits}
-use Rattle.ciphers.specs.declared.Status.{Status}
+use Rattle.ciphers.specs.Entries.{outcome, answer, ctsFits, xtsFits, ecbFits}
 
 -- ---- tests
 
@@ -44,10 +43,10 @@ ecb-sizes k t h =
 
 -- ---- answers
 
-pub answered : (b : Bool) (new old l : List ℕ) → b ≡ true → l ≡ new → (_≡_ {A = Status} (record { errno = 0 }) ((answer b new old) .status)) × (l ≡ (answer b new old) .buffer)
-answered true new old l h e = (refl, e)
+pub answered : (b : Bool) (new old l : List ℕ) → b ≡ true → l ≡ new → outcome (record { errno = 0 }) l ≡ answer b new old
+answered true new old l h e = ap (outcome (record { errno = 0 })) e
 answered false new old l h e = let z : _≡_ {A = ℕ} 0 1 = cc in absurd (omega arith)
 
-pub refused : (b : Bool) (new old : List ℕ) → b ≡ false → (_≡_ {A = Status} (record { errno = 22 }) ((answer b new old) .status)) × (old ≡ (answer b new old) .buffer)
+pub refused : (b : Bool) (new old : List ℕ) → b ≡ false → outcome (record { errno = 22 }) old ≡ answer b new old
 refused true new old h = let z : _≡_ {A = ℕ} 0 1 = cc in absurd (omega arith)
-refused false new old h = (refl, refl)
+refused false new old h = refl

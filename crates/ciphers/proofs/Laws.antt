@@ -16,10 +16,15 @@ use Rattle.modes.specs.Ecb.{ecbBlocks}
 use Rattle.modes.proofs.EcbBlocks.{length-ecbBlocks, ecbBlocks-bytes}
 use Rattle.modes.proofs.XtsRoundTrip.{numberBlock-bytes, xts-dec-enc, xts-enc-dec, length-xtsAesEnc, length-xtsAesDec}
 use Rattle.modes.proofs.CtsRoundTrip.{cts-round-trip, length-cbcCs3Encrypt, length-cbcCs3Decrypt, cbcCs3Encrypt-bytes}
-use Rattle.ciphers.specs.Entries.{answer, zeroBlock, ctsFits, ctsEncrypt, ctsDecrypt, xtsFits, tweakOf, xtsEncrypt, xtsDecrypt, ecbFits, ecbEncrypt}
+use Rattle.ciphers.specs.Entries.{Outcome, outcome, answer, zeroBlock, ctsFits, ctsEncrypt, ctsDecrypt, xtsFits, tweakOf, xtsEncrypt, xtsDecrypt, ecbFits, ecbEncrypt}
+use Rattle.ciphers.specs.declared.Status.{Status}
 use Rattle.ciphers.proofs.Fits.{cts-sizes, xts-sizes, ecb-sizes}
 
 -- ---- laws on `answer`
+
+-- the buffer that a call left is the outcome's
+pub buffer-left : (s : Status) (b : List ℕ) (o : Outcome) → outcome s b ≡ o → b ≡ o .buffer
+buffer-left s b o e = ap (λ (x : Outcome). x .buffer) e
 
 answer-length : (b : Bool) (new old : List ℕ) → (b ≡ true → length new ≡ length old) → length ((answer b new old) .buffer) ≡ length old
 answer-length true new old h = h refl

@@ -1,4 +1,4 @@
--- The public entries of ciphers: the answer and what the lent buffer holds then, for every key and every buffer. Document 01: "a key other than
+-- The public entries of ciphers: the outcome, which is the answer and what the lent buffer holds then, for every key and every buffer. Document 01: "a key other than
 -- 16 or 32 bytes (XTS: 64), a CTS text outside 16 to 4,096 bytes or an XTS block other than 4,096 is EINVAL, and the buffer stays". Assumes nothing.
 use mathlib.Core.Bool.{Bool, true, false, _&&_, _||_}
 use mathlib.Core.List.{List}
@@ -16,14 +16,17 @@ use Rattle.modes.specs.Ecb.{ecbBlocks}
 use Rattle.ciphers.specs.declared.Status.{Status}
 
 -- what a call answers, and what the lent buffer holds then
-pub record Answer : Type 0 where
+pub record Outcome : Type 0 where
   pub status : Status
   pub buffer : List ℕ
 
+abbrev pub outcome : Status → List ℕ → Outcome
+outcome s b = record { status = s; buffer = b }
+
 -- where the lengths are taken: done, which is 0, and the buffer becomes new; else EINVAL, and the buffer keeps every byte
-abbrev pub answer : Bool → List ℕ → List ℕ → Answer
-answer true new old = record { status = record { errno = 0 }; buffer = new }
-answer false new old = record { status = record { errno = number EINVAL }; buffer = old }
+abbrev pub answer : Bool → List ℕ → List ℕ → Outcome
+answer true new old = outcome (record { errno = 0 }) new
+answer false new old = outcome (record { errno = number EINVAL }) old
 
 -- ---- CBC-CS3 under a key of 16 or 32 bytes, from an initialization vector of zeros
 
@@ -34,11 +37,11 @@ ctsFits key text = (leb 16 text && leb text 4096) && (eqb key 16 || eqb key 32)
 abbrev pub zeroBlock : State
 zeroBlock = record { c0 = zeroWord; c1 = zeroWord; c2 = zeroWord; c3 = zeroWord }
 
-unfoldable pub ctsEncrypt : List ℕ → List ℕ → Answer
+unfoldable pub ctsEncrypt : List ℕ → List ℕ → Outcome
 ctsEncrypt key text =
     answer (ctsFits (length key) (length text)) (cbcCs3Encrypt (keyExpansion key) (roundsOf (length key / 4)) zeroBlock text) text
 
-unfoldable pub ctsDecrypt : List ℕ → List ℕ → Answer
+unfoldable pub ctsDecrypt : List ℕ → List ℕ → Outcome
 ctsDecrypt key text =
     answer (ctsFits (length key) (length text)) (cbcCs3Decrypt (keyExpansion key) (roundsOf (length key / 4)) zeroBlock text) text
 
@@ -52,11 +55,11 @@ xtsFits key block = eqb key 64 && eqb block 4096
 unfoldable pub tweakOf : List ℕ → ℕ → State
 tweakOf key number = cipher (keyExpansion (drop 32 key)) (roundsOf 8) (numberBlock number)
 
-unfoldable pub xtsEncrypt : List ℕ → ℕ → List ℕ → Answer
+unfoldable pub xtsEncrypt : List ℕ → ℕ → List ℕ → Outcome
 xtsEncrypt key number block =
     answer (xtsFits (length key) (length block)) (xtsAesEnc (keyExpansion (take 32 key)) (roundsOf 8) (tweakOf key number) 256 block) block
 
-unfoldable pub xtsDecrypt : List ℕ → ℕ → List ℕ → Answer
+unfoldable pub xtsDecrypt : List ℕ → ℕ → List ℕ → Outcome
 xtsDecrypt key number block =
     answer (xtsFits (length key) (length block)) (xtsAesDec (keyExpansion (take 32 key)) (roundsOf 8) (tweakOf key number) 256 block) block
 
@@ -66,5 +69,5 @@ xtsDecrypt key number block =
 unfoldable pub ecbFits : ℕ → ℕ → Bool
 ecbFits key text = eqb key 16 && (eqb (text % 16) 0 && (leb 16 text && leb text 64))
 
-unfoldable pub ecbEncrypt : List ℕ → List ℕ → Answer
+unfoldable pub ecbEncrypt : List ℕ → List ℕ → Outcome
 ecbEncrypt key text = answer (ecbFits (length key) (length text)) (ecbBlocks (keyExpansion key) (roundsOf 4) text (length text / 16)) text

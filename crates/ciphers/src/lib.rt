@@ -3,7 +3,7 @@
 mod keys;
 
 ghost use mathlib.Core.Path.{_≡_};
-ghost use Rattle.ciphers.specs.Entries.{ctsEncrypt, ctsDecrypt, xtsEncrypt, xtsDecrypt, ecbEncrypt};
+ghost use Rattle.ciphers.specs.Entries.{outcome, ctsEncrypt, ctsDecrypt, xtsEncrypt, xtsDecrypt, ecbEncrypt};
 
 // An answer: 0 for done, or 22 for EINVAL.
 pub struct Status {
@@ -12,7 +12,7 @@ pub struct Status {
 
 // CBC-CS3 of a text of 16 to 4,096 bytes, in place, under a key of 16 or 32 bytes, from an initialization vector of zeros.
 pub fn cts_encrypt(key: &[u8], text: &mut [u8]) -> Status
-    ensures { λ r. ⌜ (r ≡ (ctsEncrypt (now (key .entry)) (now (text .entry))) .status) × (now (text .exit) ≡ (ctsEncrypt (now (key .entry)) (now (text .entry))) .buffer) ⌝ }
+    ensures { λ r. ⌜ outcome r (now (text .exit)) ≡ ctsEncrypt (now (key .entry)) (now (text .entry)) ⌝ }
 {
     if keys::cts_fits(key.len(), text.len()) {
         keys::cts_encrypt(key, text);
@@ -22,7 +22,7 @@ pub fn cts_encrypt(key: &[u8], text: &mut [u8]) -> Status
 }
 
 pub fn cts_decrypt(key: &[u8], text: &mut [u8]) -> Status
-    ensures { λ r. ⌜ (r ≡ (ctsDecrypt (now (key .entry)) (now (text .entry))) .status) × (now (text .exit) ≡ (ctsDecrypt (now (key .entry)) (now (text .entry))) .buffer) ⌝ }
+    ensures { λ r. ⌜ outcome r (now (text .exit)) ≡ ctsDecrypt (now (key .entry)) (now (text .entry)) ⌝ }
 {
     if keys::cts_fits(key.len(), text.len()) {
         keys::cts_decrypt(key, text);
@@ -33,7 +33,7 @@ pub fn cts_decrypt(key: &[u8], text: &mut [u8]) -> Status
 
 // XTS-AES-256 of a block of 4,096 bytes, in place, under a key of 64 bytes; the block's number makes the tweak.
 pub fn xts_encrypt(key: &[u8], block_number: u64, block: &mut [u8]) -> Status
-    ensures { λ r. ⌜ (r ≡ (xtsEncrypt (now (key .entry)) «block_number» (now (block .entry))) .status) × (now (block .exit) ≡ (xtsEncrypt (now (key .entry)) «block_number» (now (block .entry))) .buffer) ⌝ }
+    ensures { λ r. ⌜ outcome r (now (block .exit)) ≡ xtsEncrypt (now (key .entry)) «block_number» (now (block .entry)) ⌝ }
 {
     if keys::xts_fits(key.len(), block.len()) {
         keys::xts_encrypt(key, block_number, block);
@@ -43,7 +43,7 @@ pub fn xts_encrypt(key: &[u8], block_number: u64, block: &mut [u8]) -> Status
 }
 
 pub fn xts_decrypt(key: &[u8], block_number: u64, block: &mut [u8]) -> Status
-    ensures { λ r. ⌜ (r ≡ (xtsDecrypt (now (key .entry)) «block_number» (now (block .entry))) .status) × (now (block .exit) ≡ (xtsDecrypt (now (key .entry)) «block_number» (now (block .entry))) .buffer) ⌝ }
+    ensures { λ r. ⌜ outcome r (now (block .exit)) ≡ xtsDecrypt (now (key .entry)) «block_number» (now (block .entry)) ⌝ }
 {
     if keys::xts_fits(key.len(), block.len()) {
         keys::xts_decrypt(key, block_number, block);
@@ -54,7 +54,7 @@ pub fn xts_decrypt(key: &[u8], block_number: u64, block: &mut [u8]) -> Status
 
 // AES-128 of 1 to 4 whole blocks, each by itself, in place, under a key of 16 bytes.
 pub fn ecb_encrypt(key: &[u8], text: &mut [u8]) -> Status
-    ensures { λ r. ⌜ (r ≡ (ecbEncrypt (now (key .entry)) (now (text .entry))) .status) × (now (text .exit) ≡ (ecbEncrypt (now (key .entry)) (now (text .entry))) .buffer) ⌝ }
+    ensures { λ r. ⌜ outcome r (now (text .exit)) ≡ ecbEncrypt (now (key .entry)) (now (text .entry)) ⌝ }
 {
     if keys::ecb_fits(key.len(), text.len()) {
         keys::ecb_encrypt(key, text);

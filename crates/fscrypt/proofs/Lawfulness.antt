@@ -1,7 +1,7 @@
 -- The ciphers of fscrypt keep lengths and bytes, and decryption undoes encryption: each law is one that `ciphers` proves of its entries, and no cipher is
 -- looked into. Assumes nothing.
 use mathlib.Core.Path.{ap}
-use Rattle.ciphers.specs.Entries.{Answer}
+use Rattle.ciphers.specs.Entries.{Outcome}
 use Rattle.ciphers.proofs.Laws.{ecbEncrypt-length, ecbEncrypt-bytes, ctsEncrypt-length, ctsEncrypt-bytes, ctsDecrypt-length, ctsDecrypt-ctsEncrypt, xtsEncrypt-length, xtsDecrypt-length, xtsDecrypt-xtsEncrypt}
 use Rattle.fscrypt.specs.Cipher.{Lawful, fscrypt, derive, encryptName, decryptName, seal, unseal}
 
@@ -13,8 +13,8 @@ fscrypt-lawful = record {
   length-encryptName = ctsEncrypt-length;
   bytes-encryptName = ctsEncrypt-bytes;
   length-decryptName = ctsDecrypt-length;
-  decrypt-encrypt = λ k t hk ht. ap (λ (a : Answer). a .buffer) (ctsDecrypt-ctsEncrypt k t hk ht);
+  decrypt-encrypt = λ k t hk ht. ap (λ (a : Outcome). a .buffer) (ctsDecrypt-ctsEncrypt k t hk ht);
   length-seal = xtsEncrypt-length;
   length-unseal = xtsDecrypt-length;
-  unseal-seal = λ k n b hk hb. ap (λ (a : Answer). a .buffer) (xtsDecrypt-xtsEncrypt k n b hk hb);
+  unseal-seal = λ k n b hk hb. ap (λ (a : Outcome). a .buffer) (xtsDecrypt-xtsEncrypt k n b hk hb);
 }

@@ -2,11 +2,9 @@
 use mathlib.Core.Path.{_≡_, ap, _∙_}
 use mathlib.Core.List.{List}
 use Prim.Native.Nat.{ℕ}
-use Rattle.ciphers.specs.Entries.{Answer}
+use Rattle.ciphers.specs.Entries.{Outcome, outcome}
 use Rattle.ciphers.specs.declared.Status.{Status}
 
-pub back : (first : Answer) (second : List ℕ → Answer) (l l′ l″ : List ℕ) (r : Status) → second (first .buffer) ≡ record { status = first .status; buffer = l } → l′ ≡ first .buffer
-    → r ≡ (second l′) .status → l″ ≡ (second l′) .buffer → (r ≡ first .status) × (l″ ≡ l)
-back first second l l′ l″ r undo e er el =
-    let same : second l′ ≡ record { status = first .status; buffer = l } = ap second e ∙ undo in
-    (er ∙ ap (λ (a : Answer). a .status) same, el ∙ ap (λ (a : Answer). a .buffer) same)
+pub back : (first : Outcome) (second : List ℕ → Outcome) (l l′ l″ : List ℕ) (r : Status) → second (first .buffer) ≡ outcome (first .status) l → l′ ≡ first .buffer
+    → outcome r l″ ≡ second l′ → outcome r l″ ≡ outcome (first .status) l
+back first second l l′ l″ r undo e h = h ∙ ap second e ∙ undo

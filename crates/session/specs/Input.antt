@@ -1,5 +1,5 @@
 -- What is answered to an input, byte by byte. Quotations are the request script's. Assumes nothing.
-use Prim.Native.Nat.{ℕ}
+use Prim.Native.Nat.{ℕ, _+_, _*_, _≤_}
 use mathlib.Core.Path.{_≡_}
 use mathlib.Core.Bool.{cond}
 use mathlib.Core.List.{[], _∷_, _++_}
@@ -48,7 +48,17 @@ saidAll s (b ∷ t) = saidAt s b ++ saidAll (fed s b) t
 unfoldable pub transcript : Bytes → Bytes
 transcript t = saidAll begun t ++ (ending (fedAll begun t) .said)
 
--- the volume, and the first bytes of a buffer, are what code has of a session
+-- ---- what code has of a session, in its buffers
+
+-- the buffers lent: one that keeps a line, and of a line that is too long enough to tell; one for the bytes that it spells; one for the answer
+abbrev pub Room : Bytes → Bytes → Bytes → Type 0
+Room line beside out = (131074 ≤ length line) × (length line ≤ length beside) × (1000 + 2 * length beside ≤ length out)
+
+-- the same, with so many bytes of a line kept
+abbrev pub RoomFor : ℕ → Bytes → Bytes → Bytes → Type 0
+RoomFor used line beside out = (used ≤ length line) × (131074 ≤ length line) × (length line ≤ length beside) × (1000 + 2 * length beside ≤ length out)
+
+-- the volume, and the first bytes of a buffer
 abbrev pub Held : Bytes → Volume → ℕ → Session → Type 0
 Held buffer v used s = (v ≡ s .volume) × (take used buffer ≡ kept (length buffer) (s .line))
 

@@ -8,7 +8,7 @@ ghost use mathlib.Core.Path.{_≡_};
 ghost use Prim.Native.Nat.{_+_, _*_, _≤_, _<_};
 ghost use lib.ListN.{length, take};
 ghost use Rattle.script.specs.Cutting.{upToNewline};
-ghost use Rattle.session.specs.Input.{Begun, Feeds, Says, Ends};
+ghost use Rattle.session.specs.Input.{Room, RoomFor, Begun, Feeds, Says, Ends};
 ghost use Rattle.io.specs.Counts.{Counts};
 
 // A line of 131,072 bytes, its carriage return, and one byte more, so that a line that was cut is over the limit.
@@ -45,7 +45,7 @@ fn out_room() -> [u8; OUT_ROOM]
 
 // Answers the line that the first `used` bytes are kept of.
 fn answer_kept(v: Volume, line: &[u8], used: usize, beside: &mut [u8], out: &mut [u8]) -> Response
-    requires { ⌜ (used ≤ length (now line)) × (131074 ≤ length (now line)) × (length (now line) ≤ length (now beside)) × (1000 + 2 * length (now beside) ≤ length (now out)) ⌝ }
+    requires { ⌜ RoomFor used (now line) (now beside) (now out) ⌝ }
     ensures { λ r. ⌜ (r .len ≤ length (now (out .entry))) × Ends (now (line .entry)) v used (now (out .exit)) r ⌝ }
 {
     lines::answer_line(v, &line[..used], beside, out)
@@ -59,8 +59,12 @@ fn next_answer(
     beside: &mut [u8],
     out: &mut [u8],
 ) -> Turn
-    requires { ⌜ (p .used ≤ length (now line)) × (131074 ≤ length (now line)) × (length (now line) ≤ length (now beside)) × (1000 + 2 * length (now beside) ≤ length (now out)) ⌝ }
-    ensures { λ r. ⌜ (r .used ≤ length (now (line .entry))) × (r .taken ≡ upToNewline (now (bytes .entry))) × (r .len ≤ length (now (out .entry))) × Feeds (now (line .entry)) (p .volume) (p .used) (take (r .taken) (now (bytes .entry))) (now (line .exit)) (r .volume) (r .used) × Says (now (line .entry)) (p .volume) (p .used) (take (r .taken) (now (bytes .entry))) (take (r .len) (now (out .exit))) ⌝ }
+    requires { ⌜ RoomFor (p .used) (now line) (now beside) (now out) ⌝ }
+    ensures { λ r. ⌜ r .used ≤ length (now (line .entry)) ⌝ }
+    ensures { λ r. ⌜ r .taken ≡ upToNewline (now (bytes .entry)) ⌝ }
+    ensures { λ r. ⌜ r .len ≤ length (now (out .entry)) ⌝ }
+    ensures { λ r. ⌜ Feeds (now (line .entry)) (p .volume) (p .used) (take (r .taken) (now (bytes .entry))) (now (line .exit)) (r .volume) (r .used) ⌝ }
+    ensures { λ r. ⌜ Says (now (line .entry)) (p .volume) (p .used) (take (r .taken) (now (bytes .entry))) (take (r .len) (now (out .exit))) ⌝ }
 {
     let v = p.volume;
     let cut = cutting::take_line(line, p.used, bytes);
@@ -97,8 +101,9 @@ fn take_chunk(
     beside: &mut [u8],
     out: &mut [u8],
 ) -> Progress
-    requires { ⌜ (start .used ≤ length (now line)) × (131074 ≤ length (now line)) × (length (now line) ≤ length (now beside)) × (1000 + 2 * length (now beside) ≤ length (now out)) ⌝ }
-    ensures { λ r. ⌜ (r .used ≤ length (now (line .entry))) × Feeds (now (line .entry)) (start .volume) (start .used) (now (chunk .entry)) (now (line .exit)) (r .volume) (r .used) ⌝ }
+    requires { ⌜ RoomFor (start .used) (now line) (now beside) (now out) ⌝ }
+    ensures { λ r. ⌜ r .used ≤ length (now (line .entry)) ⌝ }
+    ensures { λ r. ⌜ Feeds (now (line .entry)) (start .volume) (start .used) (now (chunk .entry)) (now (line .exit)) (r .volume) (r .used) ⌝ }
 {
     let mut p = start;
     let mut at: usize = 0;
@@ -132,7 +137,7 @@ fn take_all(
     beside: &mut [u8],
     out: &mut [u8],
 ) -> Progress
-    requires { ⌜ (131074 ≤ length (now line)) × (length (now line) ≤ length (now beside)) × (1000 + 2 * length (now beside) ≤ length (now out)) ⌝ }
+    requires { ⌜ Room (now line) (now beside) (now out) ⌝ }
     ensures { λ r. ⌜ (r .used ≤ length (now (line .entry))) × Begun (now (line .exit)) (r .volume) (r .used) ⌝ }
 {
     let mut p = Progress {

@@ -3,14 +3,8 @@ use borrow.Author.Needs.{needs}
 use Rattle.capi.proofs.bulwarkle_cts_decrypt.Statement.{statement}
 use Rattle.capi.proofs.bulwarkle_cts_decrypt.Tie as tie
 
-cts-decrypt-requires : tie.Need-cts-decrypt-requires
-cts-decrypt-requires c κs = search needs
-
-same-length : tie.Need-same-length
-same-length c = search needs
-
 returns : tie.Need-returns
-returns c = (cc, cc)
+returns c = cc
 
 pub bulwarkle-cts-decrypt-spec : {M : Type 1} → statement M
-bulwarkle-cts-decrypt-spec = tie.close (tie.spec cts-decrypt-requires same-length returns)
+bulwarkle-cts-decrypt-spec = tie.close (tie.spec (λ c κs. search needs) (λ c. search needs) returns)

@@ -3,14 +3,8 @@ use borrow.Author.Needs.{needs}
 use Rattle.capi.proofs.bulwarkle_cts_encrypt.Statement.{statement}
 use Rattle.capi.proofs.bulwarkle_cts_encrypt.Tie as tie
 
-cts-encrypt-requires : tie.Need-cts-encrypt-requires
-cts-encrypt-requires c κs = search needs
-
-same-length : tie.Need-same-length
-same-length c = search needs
-
 returns : tie.Need-returns
-returns c = (cc, cc)
+returns c = cc
 
 pub bulwarkle-cts-encrypt-spec : {M : Type 1} → statement M
-bulwarkle-cts-encrypt-spec = tie.close (tie.spec cts-encrypt-requires same-length returns)
+bulwarkle-cts-encrypt-spec = tie.close (tie.spec (λ c κs. search needs) (λ c. search needs) returns)

@@ -3,14 +3,8 @@ use borrow.Author.Needs.{needs}
 use Rattle.capi.proofs.bulwarkle_ecb_encrypt.Statement.{statement}
 use Rattle.capi.proofs.bulwarkle_ecb_encrypt.Tie as tie
 
-ecb-encrypt-requires : tie.Need-ecb-encrypt-requires
-ecb-encrypt-requires c κs = search needs
-
-same-length : tie.Need-same-length
-same-length c = search needs
-
 returns : tie.Need-returns
-returns c = (cc, cc)
+returns c = cc
 
 pub bulwarkle-ecb-encrypt-spec : {M : Type 1} → statement M
-bulwarkle-ecb-encrypt-spec = tie.close (tie.spec ecb-encrypt-requires same-length returns)
+bulwarkle-ecb-encrypt-spec = tie.close (tie.spec (λ c κs. search needs) (λ c. search needs) returns)

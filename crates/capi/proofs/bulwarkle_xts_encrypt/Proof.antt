@@ -3,14 +3,8 @@ use borrow.Author.Needs.{needs}
 use Rattle.capi.proofs.bulwarkle_xts_encrypt.Statement.{statement}
 use Rattle.capi.proofs.bulwarkle_xts_encrypt.Tie as tie
 
-xts-encrypt-requires : tie.Need-xts-encrypt-requires
-xts-encrypt-requires c κs = search needs
-
-same-length : tie.Need-same-length
-same-length c = search needs
-
 returns : tie.Need-returns
-returns c = (cc, cc)
+returns c = cc
 
 pub bulwarkle-xts-encrypt-spec : {M : Type 1} → statement M
-bulwarkle-xts-encrypt-spec = tie.close (tie.spec xts-encrypt-requires same-length returns)
+bulwarkle-xts-encrypt-spec = tie.close (tie.spec (λ c κs. search needs) (λ c. search needs) returns)

@@ -1,12 +1,13 @@
 -- `fscrypt::keysetup::encrypt_text` meets its contract: the text is as the cipher left it. Assumes nothing.
 use borrow.Author.Needs.{needs}
+use Rattle.ciphers.proofs.Laws.{buffer-left}
 use Rattle.fscrypt.specs.Cipher.{encryptName}
 use Rattle.fscrypt.proofs.keysetup.encrypt_text.Statement.{statement}
 use Rattle.fscrypt.proofs.keysetup.encrypt_text.Tie as tie
 
 returns : tie.Need-returns
 unfolding encryptName
-returns c = cc
+returns c = buffer-left _ _ _ (c .before .before .cts-encrypt .ensures)
 
 pub encrypt-text-spec : {M : Type 1} → statement M
 encrypt-text-spec = tie.close (tie.spec (λ c κs. search needs) (λ c. search needs) returns)

@@ -1,12 +1,13 @@
 -- `fscrypt::keysetup::open_block` meets its contract: the block is as the cipher left it. Assumes nothing.
 use borrow.Author.Needs.{needs}
+use Rattle.ciphers.proofs.Laws.{buffer-left}
 use Rattle.fscrypt.specs.Cipher.{unseal}
 use Rattle.fscrypt.proofs.keysetup.open_block.Statement.{statement}
 use Rattle.fscrypt.proofs.keysetup.open_block.Tie as tie
 
 returns : tie.Need-returns
 unfolding unseal
-returns c = cc
+returns c = buffer-left _ _ _ (c .before .before .xts-decrypt .ensures)
 
 pub open-block-spec : {M : Type 1} → statement M
 open-block-spec = tie.close (tie.spec (λ c. search needs) (λ c κs. search needs) (λ c. search needs) returns)

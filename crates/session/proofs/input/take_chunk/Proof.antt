@@ -23,7 +23,7 @@ add-at : tie.Need-add-at Inv-loop μ-loop
 add-at c =
     let l = c .before .before .before .before .before .before .before .before .before .before .before .before .before .before .before .before .loop in
     let k = now (c .before .before .before .before .before .before .before .before .before .before .before .before .before .before .before .before .before .before .before .before .before .args .chunk) in
-    omega (arith, c .before .before .before .before .before .before .before .before .before .before .next-answer .ensures .1, length-take (length k - l .at) (drop (l .at) k), length-drop (l .at) k, c .before .before .before .before .before .before .before .before .before .before .before .before .before .before .before .before .before .before .before .before .before .good .1 .1 .0 .0)
+    omega (arith, c .before .before .before .before .before .before .before .before .before .before .next-answer .ensures .1 .0, length-take (length k - l .at) (drop (l .at) k), length-drop (l .at) k, c .before .before .before .before .before .before .before .before .before .before .before .before .before .before .before .before .before .before .before .before .before .good .1 .1 .0 .0)
 
 loop-again : tie.Need-loop-again Inv-loop μ-loop
 loop-again c =
@@ -31,7 +31,7 @@ loop-again c =
     let s = c .before .before .before .before .before .before .before .before .before .before .before .before .before .before .before .before .before .before .before .before .before .args in
     let k = now (s .chunk) in
     let a = c .before .before .before .before .before .before .before .before .before .before .next-answer in (
-      omega (arith, a .ensures .1, length-take (length k - l .at) (drop (l .at) k), length-drop (l .at) k),
+      omega (arith, a .ensures .1 .0, length-take (length k - l .at) (drop (l .at) k), length-drop (l .at) k),
       omega (arith, a .ensures .0, a .kept .1 .0),
       omega (arith, a .kept .1 .0),
       omega (arith, a .kept .1 .0),
@@ -39,7 +39,7 @@ loop-again c =
       search needs,
       search needs,
       search needs,
-      feeds-more (now (s .line)) (s .start .volume) (s .start .used) k (l .line) (l .p .volume) (l .p .used) (l .at) (l .inv .8) (a .result .taken) (a .last .1 .0) (a .result .volume) (a .result .used) (a .ensures .3),
+      feeds-more (now (s .line)) (s .start .volume) (s .start .used) k (l .line) (l .p .volume) (l .p .used) (l .at) (l .inv .8) (a .result .taken) (a .last .1 .0) (a .result .volume) (a .result .used) (a .ensures .1 .1 .1 .0),
     )
 
 returns : tie.Need-returns Inv-loop μ-loop
