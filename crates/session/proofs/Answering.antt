@@ -2,22 +2,22 @@
 -- Assumes nothing.
 use Prim.Native.Nat.{ℕ, _+_, _-_, _≤_, _<_}
 use native.Mathlib.Omega.{arith}
-use mathlib.Core.Path.{_≡_, refl, sym, _∙_, ap}
+use mathlib.Core.Path.{_≡_, refl, sym, _∙_, ap, subst}
 use mathlib.Core.Bool.{Bool, true, false, cond}
 use mathlib.Core.List.{[], _∷_}
 use lib.ListN.{length, take, getD, length-append, length-take}
-use lib.Seq.{sets, length-sets}
+use lib.Seq.{sets}
 use lib.Dec.{eqb}
 use borrow.Author.Tests.{lt-ltb, le-ltb, eq-eqb, ne-eqb}
 use Rattle.lists.proofs.Predicates.{or-stop, or-go}
-use Rattle.lists.specs.Bytes.{Bytes}
+use Rattle.lists.specs.Bytes.{Bytes, laidOver}
 use Rattle.script.specs.Words.{firstWord, afterWord}
 use Rattle.script.specs.Commands.{verbOf, shapeOf, readWords}
 use Rattle.script.specs.declared.Shape.{Shape}
 use Rattle.script.specs.declared.Args.{Args}
 use Rattle.script.specs.declared.Verb.{Verb}
 use Rattle.volume.specs.declared.Volume.{Volume}
-use Rattle.lists.proofs.Copies.{sets-start}
+use Rattle.lists.proofs.Copies.{copied-over}
 use Rattle.script.proofs.Stores.{then-sets}
 use Rattle.script.specs.Text.{text}
 use Rattle.session.specs.Answers.{Written, Said, saying, malformed}
@@ -89,15 +89,15 @@ module _ (v : Volume) (verb : Verb) (a : Args) (t : Bytes) where
   directs-not e = sym (ap (λ (g : Bool). cond g (respond v verb a t) (malformed v)) e)
 
 -- a newline after what is said
-pub then-ended : (b c d : Bytes) (m n : ℕ) (w : Volume) (s : Said) → (w ≡ s .volume) × Written b c m (s .said) → (n ≡ m + length (text "\n")) × (d ≡ sets c m (text "\n")) → (w ≡ ended s .volume) × (take n d ≡ ended s .said) × (n ≤ length d)
+pub then-ended : (b c d : Bytes) (m n : ℕ) (w : Volume) (s : Said) → (w ≡ s .volume) × Written b c m (s .said) → (n ≡ m + length (text "\n")) × (d ≡ sets c m (text "\n"))
+    → (w ≡ ended s .volume) × (n ≡ length (ended s .said)) × (d ≡ laidOver b (ended s .said)) × (length (ended s .said) ≤ length b)
 then-ended b c d m n w s h k =
     let t = ended s .said in
     let r = then-sets b c d 0 m n (s .said) (text "\n") (omega (arith, h .1 .0)) (h .1 .1) (k .0) (k .1) in
     let l = length-append (s .said) (text "\n") in
-    let e : n ≡ length t = omega (arith, r .0) in
     let f : length t ≤ length b = omega (arith, h .1 .2) in
-    let g = ap length (r .1) ∙ length-sets b 0 t in
-    (h .0, ap (λ (i : ℕ). take i d) e ∙ ap (take (length t)) (r .1) ∙ sets-start b t f, omega arith)
+    (h .0, omega (arith, r .0), r .1 ∙ copied-over b t f, f)
 
-pub same-answer : (d : Bytes) (n : ℕ) (w : Volume) (s t : Said) → (w ≡ s .volume) × (take n d ≡ s .said) × (n ≤ length d) → s ≡ t → (w ≡ t .volume) × (take n d ≡ t .said) × (n ≤ length d)
-same-answer d n w s t h e = (h .0 ∙ ap (λ (x : Said). x .volume) e, h .1 ∙ ap (λ (x : Said). x .said) e, h .2)
+pub same-answer : (b d : Bytes) (n : ℕ) (w : Volume) (s t : Said) → (w ≡ s .volume) × (n ≡ length (s .said)) × (d ≡ laidOver b (s .said)) × (length (s .said) ≤ length b) → s ≡ t
+    → (w ≡ t .volume) × (n ≡ length (t .said)) × (d ≡ laidOver b (t .said)) × (length (t .said) ≤ length b)
+same-answer b d n w s t h e = subst (λ (x : Said). (w ≡ x .volume) × (n ≡ length (x .said)) × (d ≡ laidOver b (x .said)) × (length (x .said) ≤ length b)) e h

@@ -12,6 +12,7 @@ use lib.Dec.{eqb, ltb}
 use borrow.Rule.Slice.PartAt.{part-to-end}
 use borrow.Author.Tests.{ltb-true, ltb-false}
 use Rattle.lists.specs.Bytes.{Bytes, firstAt}
+use Rattle.lists.proofs.Copies.{laid-read}
 use Rattle.lists.proofs.Tables.{firstAt-le, firstAt-passes}
 use Rattle.volume.specs.Volume.{fresh}
 use Rattle.volume.specs.declared.Volume.{Volume}
@@ -131,8 +132,10 @@ module _ (s : Session) (c : Bytes) where
 
 -- ---- the buffer
 
-pub held-ends : (buffer : Bytes) (v : Volume) (used : ℕ) (out : Bytes) (r : Response) → 131074 ≤ length buffer → Answers out r (answered v (take used buffer)) → Ends buffer v used out r
-held-ends buffer v used out r h a s e = same-answer out (r .len) (r .volume) _ _ a (same (e .0) (e .1) ∙ answered-kept (s .volume) (length buffer) h (s .line))
+pub held-ends : (buffer : Bytes) (v : Volume) (used : ℕ) (b out : Bytes) (r : Response) → 131074 ≤ length buffer → Answers b out r (answered v (take used buffer)) → Ends buffer v used out r
+held-ends buffer v used b out r h a s e =
+    let x = same-answer b out (r .len) (r .volume) _ _ a (same (e .0) (e .1) ∙ answered-kept (s .volume) (length buffer) h (s .line)) in
+    (x .0, ap (take (r .len)) (x .2) ∙ laid-read b _ (r .len) (x .1))
   where
     same : {v w : Volume} {k l : Bytes} → v ≡ w → k ≡ l → answered v k ≡ answered w l
     same e f = cc

@@ -9,7 +9,7 @@ use Rattle.volume.specs.Volume.{fresh}
 use Rattle.volume.specs.declared.Volume.{Volume}
 use Rattle.script.specs.Cutting.{isNewline, kept}
 use Rattle.session.specs.Answers.{Said}
-use Rattle.session.specs.Lines.{answered, Answers}
+use Rattle.session.specs.Lines.{answered}
 use Rattle.session.specs.declared.Response.{Response}
 
 -- the volume, and the bytes so far of the line that has begun
@@ -76,4 +76,4 @@ Says before v m t text = (s : Session) → Held before v m s → text ≡ saidAl
 
 -- what it says at the end of a line, and the volume then
 abbrev pub Ends : Bytes → Volume → ℕ → Bytes → Response → Type 0
-Ends before v m out r = (s : Session) → Held before v m s → Answers out r (ending s)
+Ends before v m out r = (s : Session) → Held before v m s → (r .volume ≡ ending s .volume) × (take (r .len) out ≡ ending s .said)

@@ -5,7 +5,7 @@ use mathlib.Core.Bool.{Bool, true, false, cond, _||_}
 use mathlib.Core.List.{[], _++_}
 use lib.ListN.{length, getD, take}
 use lib.Dec.{eqb, leb, ltb}
-use Rattle.lists.specs.Bytes.{Bytes, zeros}
+use Rattle.lists.specs.Bytes.{Bytes, zeros, laidOver}
 use Rattle.fscrypt.specs.Cipher.{fscrypt}
 use Rattle.volume.specs.Request.{addKey, removeKey, setPolicy, getPolicy, create, link, rename, exchange, remove, find, show, seal, unseal}
 use Rattle.volume.specs.Step.{step}
@@ -75,10 +75,10 @@ ended s = saying (s .said ++ text "\n") (s .volume)
 unfoldable pub answered : Volume → Bytes → Said
 answered v line = let l = withoutReturn line in cond (isSkipped l) (saying [] v) (ended (commanded v l))
 
--- what is said stands at the start of the output buffer
-abbrev pub Answers : Bytes → Response → Said → Type 0
-Answers after r s = (r .volume ≡ s .volume) × (take (r .len) after ≡ s .said) × (r .len ≤ length after)
+-- what is said stands at the start of the output buffer, and past it the buffer is as it was
+abbrev pub Answers : Bytes → Bytes → Response → Said → Type 0
+Answers before after r s = (r .volume ≡ s .volume) × (r .len ≡ length (s .said)) × (after ≡ laidOver before (s .said)) × (length (s .said) ≤ length before)
 
--- the same, said by all that code leaves in the buffer
+-- the same, with room for one byte more
 abbrev pub Responds : Bytes → Bytes → Response → Said → Type 0
 Responds before after r s = (r .volume ≡ s .volume) × Written before after (r .len) (s .said)

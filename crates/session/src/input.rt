@@ -5,7 +5,7 @@ use libc::STDOUT_FILENO;
 use script::cutting;
 use volume::Volume;
 ghost use mathlib.Core.Path.{_≡_};
-ghost use Prim.Native.Nat.{_+_, _*_, _≤_, _<_};
+ghost use Prim.Native.Nat.{_≤_, _<_};
 ghost use lib.ListN.{length, take};
 ghost use Rattle.script.specs.Cutting.{upToNewline};
 ghost use Rattle.session.specs.Input.{Room, RoomFor, Begun, Feeds, Says, Ends};

@@ -67,7 +67,7 @@ fn command(v: Volume, line: &[u8], beside: &mut [u8], out: &mut [u8]) -> Respons
 // The answer to a line, at the start of `out`, and the volume after it. `beside` is room for the bytes of a KEY, POLICY, NAME or BLOCK.
 pub fn answer_line(v: Volume, line: &[u8], beside: &mut [u8], out: &mut [u8]) -> Response
     requires { ⌜ (length (now line) ≤ length (now beside)) × (1000 + 2 * length (now beside) ≤ length (now out)) ⌝ }
-    ensures { λ r. ⌜ Answers (now (out .exit)) r (answered v (now (line .entry))) ⌝ }
+    ensures { λ r. ⌜ Answers (now (out .entry)) (now (out .exit)) r (answered v (now (line .entry))) ⌝ }
 {
     let l = without_return(line);
     if is_skipped(l) {

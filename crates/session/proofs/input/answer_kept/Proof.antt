@@ -19,7 +19,7 @@ returns : tie.Need-returns
 returns c =
     let s = c .before .before .before .before .before .before .before .before .before .before .before in
     let a = c .before .before .before .before .answer-line in
-    (omega (arith, a .ensures .2), held-ends (now (s .args .line)) (s .args .v) (s .args .used) _ _ (s .pre .1) (a .ensures))
+    (omega (arith, a .ensures .1, a .ensures .3), held-ends (now (s .args .line)) (s .args .v) (s .args .used) (now (s .args .out)) _ _ (s .pre .1) (a .ensures))
 
 pub answer-kept-spec : {M : Type 1} → statement M
 answer-kept-spec =

@@ -24,7 +24,7 @@ returns-2 c =
     let a = c .before .before .before .before .before .answer-kept in
     let h : length (t .last .0) ≡ length (now (s .line)) = omega (arith, t .kept .0) in
     let g = sym (t .ensures .3) ∙ not-false _ (c .before .before .before .before .before .before .before .before .before .if1 .left) in
-    (omega arith, (t .ensures .2, (a .ensures .0, (feeds-end (now (s .line)) (t .last .0) (s .p .volume) (s .p .used) (t .result .used) (now (s .bytes)) h (t .ensures .1) (t .result .taken) (t .ensures .2) g _ _ (a .ensures .1), says-end (now (s .line)) (t .last .0) (s .p .volume) (s .p .used) (t .result .used) (now (s .bytes)) h (t .ensures .1) (t .result .taken) (t .ensures .2) g _ _ (a .ensures .1)))))
+    (omega arith, (t .ensures .2, (a .ensures .0, (feeds-end (now (s .line)) (t .last .0) (s .p .volume) (s .p .used) (t .result .used) (now (s .bytes)) h (t .ensures .1) (t .result .taken) (t .ensures .2) g (a .last .1 .1 .1 .1 .0) (a .result) (a .ensures .1), says-end (now (s .line)) (t .last .0) (s .p .volume) (s .p .used) (t .result .used) (now (s .bytes)) h (t .ensures .1) (t .result .taken) (t .ensures .2) g (a .last .1 .1 .1 .1 .0) (a .result) (a .ensures .1)))))
 
 pub next-answer-spec : {M : Type 1} → statement M
 next-answer-spec =
