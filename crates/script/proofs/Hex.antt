@@ -10,7 +10,7 @@ use lib.ListN.{length, getD, take, drop, length-drop}
 use lib.Seq.{take-suc}
 use Rattle.lists.specs.Bytes.{Bytes, hexDigit}
 use Rattle.script.specs.Numbers.{isDigit}
-use Rattle.script.specs.Strings.{isSmall, isLarge, hexValue, isQuoted, fromHex, bytesOf, toHex, isAllGraphic, nameText}
+use Rattle.script.specs.Strings.{isLowerHex, isUpperHex, hexValue, isQuoted, fromHex, bytesOf, toHex, isAllGraphic, nameText}
 
 -- the cases of a hex digit
 module _ (b : ℕ) where
@@ -18,15 +18,15 @@ module _ (b : ℕ) where
   unfolding hexValue
   value-digit e = rw e
 
-  pub value-small : isDigit b ≡ false → isSmall b ≡ true → b - 87 ≡ hexValue b
+  pub value-small : isDigit b ≡ false → isLowerHex b ≡ true → b - 87 ≡ hexValue b
   unfolding hexValue
   value-small d e = rw (d, e)
 
-  pub value-large : isDigit b ≡ false → isSmall b ≡ false → isLarge b ≡ true → b - 55 ≡ hexValue b
+  pub value-large : isDigit b ≡ false → isLowerHex b ≡ false → isUpperHex b ≡ true → b - 55 ≡ hexValue b
   unfolding hexValue
   value-large d e f = rw (d, e, f)
 
-  pub value-none : isDigit b ≡ false → isSmall b ≡ false → isLarge b ≡ false → 0 ≡ hexValue b
+  pub value-none : isDigit b ≡ false → isLowerHex b ≡ false → isUpperHex b ≡ false → 0 ≡ hexValue b
   unfolding hexValue
   value-none d e f = rw (d, e, f)
 

@@ -12,7 +12,7 @@ use lib.Dec.{eqb, ltb}
 use borrow.Author.Tests.{lt-ltb, le-ltb, ltb-true, ltb-false, eq-eqb, ne-eqb}
 use Rattle.lists.specs.Bytes.{Bytes, firstAt}
 use Rattle.script.specs.Words.{isBlank}
-use Rattle.script.specs.Cutting.{isNewline, beforeNewline, lastOf, relast, keep, keptOn}
+use Rattle.script.specs.Cutting.{isNewline, beforeNewline, lastOf, withLast, keep, keptOn}
 
 -- ---- the ways of `keep`
 
@@ -21,11 +21,11 @@ unfolding keep
 keep-room room k b h = rw (lt-ltb _ _ h)
 
 module _ (room : ℕ) (k : Bytes) (b : ℕ) (h : room ≤ length k) where
-  pub keep-blank : isBlank (lastOf k) ≡ true → keep room k b ≡ relast k b
+  pub keep-blank : isBlank (lastOf k) ≡ true → keep room k b ≡ withLast k b
   unfolding keep
   keep-blank t = rw (le-ltb _ _ h, t)
 
-  pub keep-return : isBlank (lastOf k) ≡ false → lastOf k ≡ 13 → keep room k b ≡ relast k 46
+  pub keep-return : isBlank (lastOf k) ≡ false → lastOf k ≡ 13 → keep room k b ≡ withLast k 46
   unfolding keep
   keep-return t e = rw (le-ltb _ _ h, t, eq-eqb _ _ e)
 
@@ -43,13 +43,13 @@ module _ (line : Bytes) (used b : ℕ) where
     full : keep (length line) line b ≡ keep (length line) (take used line) b
     full = ap (λ (k : Bytes). keep (length line) k b) (sym (take-all used line h))
 
-    whole : (a : ℕ) → take used (relast line a) ≡ relast line a
-    whole a = take-all used (relast line a) (omega (arith, length-set line (length line - 1) a))
+    whole : (a : ℕ) → take used (withLast line a) ≡ withLast line a
+    whole a = take-all used (withLast line a) (omega (arith, length-set line (length line - 1) a))
 
-    pub store-blank : isBlank (lastOf line) ≡ true → take used (relast line b) ≡ keep (length line) (take used line) b
+    pub store-blank : isBlank (lastOf line) ≡ true → take used (withLast line b) ≡ keep (length line) (take used line) b
     store-blank t = whole b ∙ sym (keep-blank _ line b (omega arith) t) ∙ full
 
-    pub store-return : isBlank (lastOf line) ≡ false → lastOf line ≡ 13 → take used (relast line 46) ≡ keep (length line) (take used line) b
+    pub store-return : isBlank (lastOf line) ≡ false → lastOf line ≡ 13 → take used (withLast line 46) ≡ keep (length line) (take used line) b
     store-return t e = whole 46 ∙ sym (keep-return _ line b (omega arith) t e) ∙ full
 
     pub store-word : isBlank (lastOf line) ≡ false → (lastOf line ≡ 13 → ⊥) → take used line ≡ keep (length line) (take used line) b
@@ -78,7 +78,7 @@ pub keep-length : (room : ℕ) (k : Bytes) (b : ℕ) → length k ≤ room → l
 unfolding keep
 keep-length room k b h = go (ltb (length k) room) (isBlank (lastOf k)) (eqb (lastOf k) 13) refl
   where
-    go : (t u w : Bool) → ltb (length k) room ≡ t → length (cond t (k ++ (b ∷ [])) (cond u (relast k b) (cond w (relast k 46) k))) ≡ min room (length k + 1)
+    go : (t u w : Bool) → ltb (length k) room ≡ t → length (cond t (k ++ (b ∷ [])) (cond u (withLast k b) (cond w (withLast k 46) k))) ≡ min room (length k + 1)
     go true u w e = omega (arith, ltb-true, length-append k (b ∷ []))
     go false true w e = omega (arith, ltb-false, length-set k (length k - 1) b)
     go false false true e = omega (arith, ltb-false, length-set k (length k - 1) 46)

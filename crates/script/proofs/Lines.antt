@@ -4,11 +4,11 @@ use Prim.Native.Nat.{_≤_}
 use native.Mathlib.Omega.{arith}
 use lib.ListN.{length, length-take, length-drop}
 use Rattle.lists.specs.Bytes.{Bytes, firstAt}
-use Rattle.script.specs.Words.{isBlank, isInk, trimmed, firstWord, afterWord}
+use Rattle.script.specs.Words.{isBlank, isNotBlank, trimmed, firstWord, afterWord}
 
 trimmed-length : (s : Bytes) → length (trimmed s) ≤ length s
 unfolding trimmed
-trimmed-length s = omega (arith, length-drop (firstAt isInk s) s)
+trimmed-length s = omega (arith, length-drop (firstAt isNotBlank s) s)
 
 pub firstWord-length : (s : Bytes) → length (firstWord s) ≤ length s
 unfolding firstWord

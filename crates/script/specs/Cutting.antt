@@ -28,16 +28,16 @@ upToNewline s = min (firstAt isNewline s + 1) (length s)
 abbrev pub lastOf : Bytes → ℕ
 lastOf k = getD k (length k - 1) 0
 
-abbrev pub relast : Bytes → ℕ → Bytes
-relast k b = set k (length k - 1) b
+abbrev pub withLast : Bytes → ℕ → Bytes
+withLast k b = set k (length k - 1) b
 
 -- One byte more of a line, in a buffer with so much room. A full one has its last byte replaced while that is a blank: it still tells whether a word
--- comes, and how that begins. A carriage return there is not the line's last byte, so it becomes a byte of a word, the stop.
+-- comes, and how that begins. A carriage return there is not the line's last byte, so it becomes a byte of a word, a full stop (46).
 unfoldable pub keep : ℕ → Bytes → ℕ → Bytes
 keep room k b =
     cond (ltb (length k) room) (k ++ (b ∷ []))
-    (cond (isBlank (lastOf k)) (relast k b)
-    (cond (eqb (lastOf k) 13) (relast k 46)
+    (cond (isBlank (lastOf k)) (withLast k b)
+    (cond (eqb (lastOf k) 13) (withLast k 46)
     k))
 
 -- more bytes of a line of which some are kept

@@ -9,18 +9,18 @@ use Rattle.script.specs.Text.{text, isWithin}
 use Rattle.script.specs.Numbers.{isDigit}
 
 -- `a` to `f`, `A` to `F`
-abbrev pub isSmall : ℕ → Bool
-isSmall b = isWithin 97 102 b
+abbrev pub isLowerHex : ℕ → Bool
+isLowerHex b = isWithin 97 102 b
 
-abbrev pub isLarge : ℕ → Bool
-isLarge b = isWithin 65 70 b
+abbrev pub isUpperHex : ℕ → Bool
+isUpperHex b = isWithin 65 70 b
 
 abbrev pub isHexDigit : ℕ → Bool
-isHexDigit b = isDigit b || (isSmall b || isLarge b)
+isHexDigit b = isDigit b || (isLowerHex b || isUpperHex b)
 
 -- what a hex digit stands for
 unfoldable pub hexValue : ℕ → ℕ
-hexValue b = cond (isDigit b) (b - 48) (cond (isSmall b) (b - 87) (cond (isLarge b) (b - 55) 0))
+hexValue b = cond (isDigit b) (b - 48) (cond (isLowerHex b) (b - 87) (cond (isUpperHex b) (b - 55) 0))
 
 -- every byte is a hex digit
 unfoldable pub isHex : Bytes → Bool

@@ -9,12 +9,12 @@ use Rattle.lists.specs.Bytes.{Bytes, firstAt}
 abbrev pub isBlank : ℕ → Bool
 isBlank b = eqb b 32 || eqb b 9
 
-abbrev pub isInk : ℕ → Bool
-isInk b = not (isBlank b)
+abbrev pub isNotBlank : ℕ → Bool
+isNotBlank b = not (isBlank b)
 
 -- without the blanks at the start
 unfoldable pub trimmed : Bytes → Bytes
-trimmed s = drop (firstAt isInk s) s
+trimmed s = drop (firstAt isNotBlank s) s
 
 -- the first word, empty where there is none
 unfoldable pub firstWord : Bytes → Bytes

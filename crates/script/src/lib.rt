@@ -32,7 +32,7 @@ pub enum Verb {
     Unknown,
 }
 
-// What a word after it should be.
+// What a word after it should be. First and Second are the request's numbers, Text a KEY, POLICY, NAME or BLOCK.
 pub enum Sort {
     First,
     Second,

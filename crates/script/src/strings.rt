@@ -5,16 +5,16 @@ ghost use mathlib.Core.Path.{_≡_};
 ghost use Prim.Native.Nat.{_+_, _*_, _≤_};
 ghost use lib.ListN.{length};
 ghost use Rattle.lists.specs.Bytes.{laidOver};
-ghost use Rattle.script.specs.Strings.{isSmall, isLarge, isHexDigit, hexValue, isHex, isQuoted, isByteString, fromHex, bytesOf};
+ghost use Rattle.script.specs.Strings.{isLowerHex, isUpperHex, isHexDigit, hexValue, isHex, isQuoted, isByteString, fromHex, bytesOf};
 
-fn is_small(b: u8) -> bool
-    ensures { λ r. ⌜ r ≡ isSmall b ⌝ }
+fn is_lower_hex(b: u8) -> bool
+    ensures { λ r. ⌜ r ≡ isLowerHex b ⌝ }
 {
     ranges::is_within(b, b'a', b'f')
 }
 
-fn is_large(b: u8) -> bool
-    ensures { λ r. ⌜ r ≡ isLarge b ⌝ }
+fn is_upper_hex(b: u8) -> bool
+    ensures { λ r. ⌜ r ≡ isUpperHex b ⌝ }
 {
     ranges::is_within(b, b'A', b'F')
 }
@@ -25,10 +25,10 @@ fn is_hex_digit(b: u8) -> bool
     if is_digit(b) {
         return true;
     }
-    if is_small(b) {
+    if is_lower_hex(b) {
         return true;
     }
-    is_large(b)
+    is_upper_hex(b)
 }
 
 // What a hex digit stands for: b'a' and b'A' are 10.
@@ -38,10 +38,10 @@ fn hex_value(b: u8) -> u8
     if is_digit(b) {
         return b - b'0';
     }
-    if is_small(b) {
+    if is_lower_hex(b) {
         return b - 87;
     }
-    if is_large(b) {
+    if is_upper_hex(b) {
         return b - 55;
     }
     0

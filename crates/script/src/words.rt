@@ -1,7 +1,7 @@
 // The words of a line, one after the other.
 ghost use mathlib.Core.Path.{_≡_};
 ghost use Rattle.lists.specs.Bytes.{firstAt};
-ghost use Rattle.script.specs.Words.{isBlank, isInk, trimmed, firstWord, afterWord};
+ghost use Rattle.script.specs.Words.{isBlank, isNotBlank, trimmed, firstWord, afterWord};
 
 pub fn is_blank(b: u8) -> bool
     ensures { λ r. ⌜ r ≡ isBlank b ⌝ }
@@ -12,8 +12,8 @@ pub fn is_blank(b: u8) -> bool
     b == b'\t'
 }
 
-fn first_ink(s: &[u8]) -> usize
-    ensures { λ r. ⌜ r ≡ firstAt isInk (now (s .entry)) ⌝ }
+fn first_not_blank(s: &[u8]) -> usize
+    ensures { λ r. ⌜ r ≡ firstAt isNotBlank (now (s .entry)) ⌝ }
 {
     let mut i: usize = 0;
     while i < s.len() {
@@ -42,7 +42,7 @@ fn first_blank(s: &[u8]) -> usize
 fn trim(s: &[u8]) -> &[u8]
     ensures { λ r. ⌜ now r ≡ trimmed (now (s .entry)) ⌝ }
 {
-    let i = first_ink(s);
+    let i = first_not_blank(s);
     &s[i..]
 }
 

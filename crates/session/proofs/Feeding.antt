@@ -19,7 +19,7 @@ use Rattle.volume.specs.declared.Volume.{Volume}
 use Rattle.script.specs.Cutting.{isNewline, hasNewline, beforeNewline, upToNewline, keptOn, kept}
 use Rattle.script.proofs.Keeping.{keptOn-length, keptOn-short, keptOn-append}
 use Rattle.session.specs.Answers.{Said, saying, malformed}
-use Rattle.session.specs.Lines.{withoutReturn, isSkipped, ended, answered, Answers}
+use Rattle.session.specs.Lines.{withoutReturn, isSkipped, ended, answered, Replies}
 use Rattle.session.specs.Input.{Session, session, begun, ending, fed, saidAt, fedAll, saidAll, transcript, Held, Begun, Feeds, Says, Ends}
 use Rattle.session.specs.declared.Response.{Response}
 use Rattle.session.proofs.Answering.{no-return-none, overlong, skips, same-answer}
@@ -132,7 +132,7 @@ module _ (s : Session) (c : Bytes) where
 
 -- ---- the buffer
 
-pub held-ends : (buffer : Bytes) (v : Volume) (used : ℕ) (b out : Bytes) (r : Response) → 131074 ≤ length buffer → Answers b out r (answered v (take used buffer)) → Ends buffer v used out r
+pub held-ends : (buffer : Bytes) (v : Volume) (used : ℕ) (b out : Bytes) (r : Response) → 131074 ≤ length buffer → Replies b out r (answered v (take used buffer)) → Ends buffer v used out r
 held-ends buffer v used b out r h a s e =
     let x = same-answer b out (r .len) (r .volume) _ _ a (same (e .0) (e .1) ∙ answered-kept (s .volume) (length buffer) h (s .line)) in
     (x .0, ap (take (r .len)) (x .2) ∙ laid-read b _ (r .len) (x .1))

@@ -11,7 +11,7 @@ use lib.Dec.{eqb, ltb}
 use borrow.Author.Tests.{ltb-true, ltb-false, eqb-true, eqb-false, ne-eqb}
 use Rattle.lists.specs.Bytes.{Bytes, firstAt}
 use Rattle.script.specs.Words.{isBlank, trimmed, firstWord}
-use Rattle.script.specs.Cutting.{lastOf, relast, keep, keptOn, kept}
+use Rattle.script.specs.Cutting.{lastOf, withLast, keep, keptOn, kept}
 use Rattle.script.proofs.Keeping.{keep-room, keep-blank, keep-return, keep-word}
 use Rattle.session.specs.Lines.{withoutReturn, isSkipped}
 use Rattle.session.proofs.Answering.{no-return-none}
@@ -55,9 +55,9 @@ module _ (b : ℕ) (s : Bytes) where
   unfolding isSkipped firstWord trimmed firstAt
   skipped-blank h = rw h
 
-  skipped-ink : isBlank b ≡ false → isSkipped (b ∷ s) ≡ eqb b 35
+  skipped-word : isBlank b ≡ false → isSkipped (b ∷ s) ≡ eqb b 35
   unfolding isSkipped firstWord trimmed firstAt
-  skipped-ink h = let e : eqb (suc (length (take (firstAt isBlank s) s))) 0 ≡ false = ne-eqb (suc (length (take (firstAt isBlank s) s))) 0 (λ (e : suc (length (take (firstAt isBlank s) s)) ≡ 0). omega arith) in rw (h, h, e)
+  skipped-word h = let e : eqb (suc (length (take (firstAt isBlank s) s))) 0 ≡ false = ne-eqb (suc (length (take (firstAt isBlank s) s))) 0 (λ (e : suc (length (take (firstAt isBlank s) s)) ≡ 0). omega arith) in rw (h, h, e)
 
 pub skipped-none : isSkipped [] ≡ true
 unfolding isSkipped firstWord trimmed firstAt
@@ -87,15 +87,15 @@ skipped-look (b ∷ []) = ap isSkipped (without-one b) ∙ go (isBlank b) (eqb b
     go false true true e f = skipped-none
     go false false true e f = skipped-none
     go true u false e f = skipped-blank b [] e ∙ skipped-none
-    go false true false e f = skipped-ink b [] e ∙ f
-    go false false false e f = skipped-ink b [] e ∙ f
+    go false true false e f = skipped-word b [] e ∙ f
+    go false false false e f = skipped-word b [] e ∙ f
 skipped-look (b ∷ c ∷ s) = ap isSkipped (without-more b c s) ∙ go (isBlank b) (eqb b 35) (eqb b 13) refl refl (skipped-look (c ∷ s))
   where
     go : (t u w : Bool) → isBlank b ≡ t → eqb b 35 ≡ u → isSkipped (withoutReturn (c ∷ s)) ≡ skips (look bare (c ∷ s)) → isSkipped (b ∷ withoutReturn (c ∷ s)) ≡ skips (look (cond t bare (cond u comment (cond w returned word))) (c ∷ s))
     go true u w e f h = skipped-blank b _ e ∙ h
-    go false true w e f h = skipped-ink b _ e ∙ f ∙ sym (ap skips (look-comment s))
-    go false false true e f h = skipped-ink b _ e ∙ f ∙ sym (ap skips (look-word s))
-    go false false false e f h = skipped-ink b _ e ∙ f ∙ sym (ap skips (look-word s))
+    go false true w e f h = skipped-word b _ e ∙ f ∙ sym (ap skips (look-comment s))
+    go false false true e f h = skipped-word b _ e ∙ f ∙ sym (ap skips (look-word s))
+    go false false false e f h = skipped-word b _ e ∙ f ∙ sym (ap skips (look-word s))
 
 -- ---- what is kept tells the same
 
@@ -108,15 +108,15 @@ module _ (k : Bytes) (h : 0 < length k) where
   front : Look
   front = look bare (take (length k - 1) k)
 
-  look-relast : (b : ℕ) → look bare (relast k b) ≡ next front b
+  look-withLast : (b : ℕ) → look bare (withLast k b) ≡ next front b
   unfolding front
-  look-relast b =
+  look-withLast b =
       let e : length k ≤ suc (length k - 1) = omega arith in
       ap (look bare) (set-split k (length k - 1) b (omega arith) ∙ ap (λ (r : Bytes). take (length k - 1) k ++ (b ∷ r)) (drop-of-length-le k e))
       ∙ look-append bare (take (length k - 1) k) (b ∷ [])
 
   look-last : look bare k ≡ next front (lastOf k)
-  look-last = ap (look bare) (sym (set-getD k (length k - 1) 0)) ∙ look-relast (lastOf k)
+  look-last = ap (look bare) (sym (set-getD k (length k - 1) 0)) ∙ look-withLast (lastOf k)
 
 next-blank : (q : Look) (x b : ℕ) → isBlank x ≡ true → next q b ≡ next (next q x) b
 next-blank bare x b h = rw h
@@ -149,8 +149,8 @@ module _ (room : ℕ) (h : 0 < room) where
       go false u w e f g = let l : room ≤ length k = ltb-false _ _ e in let p : 0 < length k = omega arith in full p l u w f g ∙ ap (λ (q : Look). next q b) (sym (look-last k p))
         where
           full : (p : 0 < length k) → room ≤ length k → (u w : Bool) → isBlank (lastOf k) ≡ u → eqb (lastOf k) 13 ≡ w → look bare (keep room k b) ≡ next (next (front k p) (lastOf k)) b
-          full p l true w f g = ap (look bare) (keep-blank room k b l f) ∙ look-relast k p b ∙ next-blank (front k p) (lastOf k) b f
-          full p l false true f g = ap (look bare) (keep-return room k b l f (eqb-true _ _ g)) ∙ look-relast k p 46 ∙ next-return (front k p) (lastOf k) b (eqb-true _ _ g)
+          full p l true w f g = ap (look bare) (keep-blank room k b l f) ∙ look-withLast k p b ∙ next-blank (front k p) (lastOf k) b f
+          full p l false true f g = ap (look bare) (keep-return room k b l f (eqb-true _ _ g)) ∙ look-withLast k p 46 ∙ next-return (front k p) (lastOf k) b (eqb-true _ _ g)
           full p l false false f g = ap (look bare) (keep-word room k b l f (eqb-false _ _ g)) ∙ look-last k p ∙ next-word (front k p) (lastOf k) b f (eqb-false _ _ g)
 
   look-kept : (k s : Bytes) → look bare (keptOn room k s) ≡ look (look bare k) s

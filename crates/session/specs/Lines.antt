@@ -76,8 +76,8 @@ unfoldable pub answered : Volume → Bytes → Said
 answered v line = let l = withoutReturn line in cond (isSkipped l) (saying [] v) (ended (commanded v l))
 
 -- what is said stands at the start of the output buffer, and past it the buffer is as it was
-abbrev pub Answers : Bytes → Bytes → Response → Said → Type 0
-Answers before after r s = (r .volume ≡ s .volume) × (r .len ≡ length (s .said)) × (after ≡ laidOver before (s .said)) × (length (s .said) ≤ length before)
+abbrev pub Replies : Bytes → Bytes → Response → Said → Type 0
+Replies before after r s = (r .volume ≡ s .volume) × (r .len ≡ length (s .said)) × (after ≡ laidOver before (s .said)) × (length (s .said) ≤ length before)
 
 -- the same, with room for one byte more
 abbrev pub Responds : Bytes → Bytes → Response → Said → Type 0

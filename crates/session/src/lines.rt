@@ -11,7 +11,7 @@ use volume::Volume;
 ghost use mathlib.Core.Path.{_≡_};
 ghost use Prim.Native.Nat.{_+_, _*_, _≤_};
 ghost use lib.ListN.{length, take};
-ghost use Rattle.session.specs.Lines.{withoutReturn, isSkipped, directed, commanded, answered, Responds, Answers};
+ghost use Rattle.session.specs.Lines.{withoutReturn, isSkipped, directed, commanded, answered, Responds, Replies};
 
 // One carriage return at the end is dropped.
 fn without_return(line: &[u8]) -> &[u8]
@@ -67,7 +67,7 @@ fn command(v: Volume, line: &[u8], beside: &mut [u8], out: &mut [u8]) -> Respons
 // The answer to a line, at the start of `out`, and the volume after it. `beside` is room for the bytes of a KEY, POLICY, NAME or BLOCK.
 pub fn answer_line(v: Volume, line: &[u8], beside: &mut [u8], out: &mut [u8]) -> Response
     requires { ⌜ (length (now line) ≤ length (now beside)) × (1000 + 2 * length (now beside) ≤ length (now out)) ⌝ }
-    ensures { λ r. ⌜ Answers (now (out .entry)) (now (out .exit)) r (answered v (now (line .entry))) ⌝ }
+    ensures { λ r. ⌜ Replies (now (out .entry)) (now (out .exit)) r (answered v (now (line .entry))) ⌝ }
 {
     let l = without_return(line);
     if is_skipped(l) {

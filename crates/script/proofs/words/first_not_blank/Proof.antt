@@ -1,17 +1,17 @@
--- `first_ink`: every byte before `i` is a blank. Assumes nothing.
+-- `first_not_blank`: every byte before `i` is a blank. Assumes nothing.
 use mathlib.Core.Path.{ap, sym, _∙_}
 use mathlib.Core.Bool.{not}
 use Prim.Native.Nat.{_≤_, _-_}
 use native.Mathlib.Omega.{arith}
 use lib.ListN.{length}
 use Rattle.lists.proofs.Loops.{Scanned, hit, miss, scanned-none, scanned-all}
-use Rattle.script.specs.Words.{isInk}
+use Rattle.script.specs.Words.{isNotBlank}
 use borrow.Author.Needs.{needs}
-use Rattle.script.proofs.words.first_ink.Statement.{statement}
-use Rattle.script.proofs.words.first_ink.Tie as tie
+use Rattle.script.proofs.words.first_not_blank.Statement.{statement}
+use Rattle.script.proofs.words.first_not_blank.Tie as tie
 
 abbrev Inv-loop : tie.InvT-loop
-Inv-loop s i₀ i = (i ≤ length s) × Scanned isInk s i
+Inv-loop s i₀ i = (i ≤ length s) × Scanned isNotBlank s i
 
 abbrev μ-loop : tie.MeasureT-loop
 μ-loop s i₀ i = length s - i
@@ -28,8 +28,8 @@ loop-again c = let l = c .before .before .before .before .loop in (omega arith, 
 returns-2 : tie.Need-returns-2 Inv-loop μ-loop
 returns-2 c = scanned-all _ _ _ (omega arith) (c .before .loop .inv .1)
 
-pub first-ink-spec : {M : Type 1} → statement M
-first-ink-spec =
+pub first-not-blank-spec : {M : Type 1} → statement M
+first-not-blank-spec =
     tie.close
     (tie.spec
     Inv-loop
