@@ -2,16 +2,14 @@
 -- Assumes nothing.
 use mathlib.Core.Path.{_≡_, sym, ap, _∙_}
 use mathlib.Core.Bool.{true, false}
-use Prim.Native.Nat.{ℕ, _<_}
-use lib.ListN.{length, take, getD}
-use lib.Seq.{getD-take}
+use Prim.Native.Nat.{ℕ}
+use lib.ListN.{length}
 use Rattle.lists.specs.Bytes.{Bytes, laidOver}
 use Rattle.lists.proofs.Tests.{if-true, if-false}
 use Rattle.fscrypt.specs.Cipher.{Cipher}
 use Rattle.fscrypt.specs.Names.{nameBytes, packed}
 use Rattle.fscrypt.specs.declared.NameRead.{NameRead}
 use Rattle.fscrypt.proofs.Padding.{nameBytes-packed}
-use Rattle.fscrypt.proofs.Shape.{Sized}
 use Rattle.names.specs.Shown.{shownRead}
 use Rattle.volume.specs.Volume.{nameOf}
 use Rattle.volume.specs.Request.{outcome, done, shown, show, seal, unseal}
@@ -28,10 +26,6 @@ use Rattle.volume.specs.declared.Form.the-variants.{Plain, Decrypted, Encoded}
 use Rattle.volume.proofs.Passed.{key-present}
 
 -- ---- show
-
--- a byte of a name is that byte of the array it stands in
-pub cut-byte : {n : ℕ} {b : Bytes} → Sized n b → (i : ℕ) → i < n → getD (take n b) i 0 ≡ getD b i 0
-cut-byte {n} {b} s i h = getD-take n b i 0 h
 
 module _ (v : Volume) (dir : Inode) where
   pub form-plain : dir .encrypted ≡ false → Plain ≡ formIn v dir

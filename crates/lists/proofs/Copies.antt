@@ -4,7 +4,7 @@ use Prim.Native.Nat.{ℕ, suc, _+_, _≤_, _<_}
 use native.Mathlib.Omega.{arith}
 use native.Mathlib.Numerals.{add-one}
 use native.Mathlib.Nat.{zero-add}
-use mathlib.Core.Path.{_≡_, refl, sym, _∙_, ap, ap₂}
+use mathlib.Core.Path.{_≡_, sym, _∙_, ap, ap₂}
 use mathlib.Core.List.{[], _∷_, _++_, append-nil}
 use lib.ListN.{length, take, drop, set, getD, drop-of-length-le}
 use lib.Seq.{sets, sets-eq, paste, paste-suc, take-suc, take-length, take-append-seam, length-take-le}
@@ -35,9 +35,6 @@ copied-whole b c s e h = e ∙ copied-over b s (omega arith) ∙ laid-whole b s 
 -- a string at the start, read back
 pub laid-read : (b s : Bytes) (n : ℕ) → n ≡ length s → take n (laidOver b s) ≡ s
 laid-read b s n e = ap (λ (k : ℕ). take k (laidOver b s)) e ∙ take-append-seam s (drop (length s) b)
-
-pub sets-start : (b s : Bytes) → length s ≤ length b → take (length s) (sets b 0 s) ≡ s
-sets-start b s h = ap (take (length s)) (copied-over b s h) ∙ laid-read b s (length s) refl
 
 -- a string that ends where the buffer does
 pub copied-end : (b : Bytes) (at : ℕ) (s : Bytes) → at + length s ≡ length b → sets b at s ≡ take at b ++ s

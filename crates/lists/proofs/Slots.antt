@@ -7,8 +7,8 @@ use mathlib.Core.Logic.{_≢_}
 use mathlib.Core.Bool.{Bool, true, false, cond, false≢true}
 use mathlib.Core.List.{List, [], _∷_}
 use lib.ListN.{length, getD, set, replicate, List·getD-eq-default}
-use lib.Dec.{eqb, leb, ltb}
-use borrow.Author.Tests.{ltb-true, ltb-false, leb-false}
+use lib.Dec.{eqb, ltb}
+use borrow.Author.Tests.{ltb-true, ltb-false}
 use Rattle.lists.specs.Bytes.{firstAt}
 use Rattle.lists.proofs.Tests.{eqb-true, eqb-self}
 use Rattle.lists.proofs.Tables.{all-set, firstAt-none}
@@ -84,9 +84,6 @@ module _ {A : Type 0} where
 
     pub search-none : p d ≡ false → ltb (firstAt p l) n ≡ false → (i : ℕ) → p (getD l i d) ≡ false
     search-none z h = let t : n ≤ firstAt p l = ltb-false (firstAt p l) n h in firstAt-none p l d z (omega arith)
-
-    pub search-room : leb n (firstAt p l) ≡ false → firstAt p l < length l
-    search-room h = let t : firstAt p l < n = leb-false n (firstAt p l) h in omega arith
 
 -- ---- the pigeonhole
 
