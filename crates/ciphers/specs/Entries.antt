@@ -53,15 +53,15 @@ xtsFits key block = eqb key 64 && eqb block 4096
 
 -- the tweak of a block's first 16 bytes: the block's number, the lowest byte first, enciphered under the second half
 unfoldable pub tweakOf : List ℕ → ℕ → State
-tweakOf key number = cipher (keyExpansion (drop 32 key)) (roundsOf 8) (numberBlock number)
+tweakOf key n = cipher (keyExpansion (drop 32 key)) (roundsOf 8) (numberBlock n)
 
 unfoldable pub xtsEncrypt : List ℕ → ℕ → List ℕ → Outcome
-xtsEncrypt key number block =
-    answer (xtsFits (length key) (length block)) (xtsAesEnc (keyExpansion (take 32 key)) (roundsOf 8) (tweakOf key number) 256 block) block
+xtsEncrypt key n block =
+    answer (xtsFits (length key) (length block)) (xtsAesEnc (keyExpansion (take 32 key)) (roundsOf 8) (tweakOf key n) 256 block) block
 
 unfoldable pub xtsDecrypt : List ℕ → ℕ → List ℕ → Outcome
-xtsDecrypt key number block =
-    answer (xtsFits (length key) (length block)) (xtsAesDec (keyExpansion (take 32 key)) (roundsOf 8) (tweakOf key number) 256 block) block
+xtsDecrypt key n block =
+    answer (xtsFits (length key) (length block)) (xtsAesDec (keyExpansion (take 32 key)) (roundsOf 8) (tweakOf key n) 256 block) block
 
 -- ---- ECB under a key of 16 bytes, for key derivation
 

@@ -50,7 +50,7 @@ transcript t = saidAll begun t ++ (ending (fedAll begun t) .said)
 
 -- ---- what code has of a session, in its buffers
 
--- the buffers lent: one that keeps a line, and of a line that is too long enough to tell; one for the bytes that it spells; one for the answer
+-- the buffers lent: one with room for a line, or for enough of a longer one to tell that it is too long; one for the bytes that a line spells; one for the answer
 abbrev pub Room : Bytes → Bytes → Bytes → Type 0
 Room line beside out = (131074 ≤ length line) × (length line ≤ length beside) × (1000 + 2 * length beside ≤ length out)
 

@@ -1,5 +1,5 @@
--- What holds of what was there, and of each effect whose check passed, holds of every request's outcome, for a refusal settles to what was there. And what every
--- typed request keeps holds after each request of a list, by induction on the list. Assumes nothing.
+-- What holds of every refusal, with buffer and volume as they were, and of the effect where the check passed, holds of a request's outcome; and what every typed
+-- request keeps holds after each request of a list, by induction on the list. A request that was not refused passed its checks and did its effect. Assumes nothing.
 use Prim.Native.Nat.{ℕ}
 use mathlib.Core.Path.{_≡_, refl, sym, ap, subst}
 use mathlib.Core.Logic.{_≢_, _⊎_, inl, inr}

@@ -1,5 +1,5 @@
--- What a table of checks that was passed tells: for each request a record with a field for each line, in the table's order. Proofs about requests that were done
--- read these fields, so that a further line of a table changes one law here. Assumes nothing.
+-- What a passed table of checks tells: a law for each table but get policy's, which no proof needs; where there are several lines, a record with a field for each, in
+-- the table's order. Proofs about requests that were done read these fields, so that a further line of a table changes one law here. Assumes nothing.
 use Prim.Native.Nat.{ℕ, _≤_, _<_}
 use native.Mathlib.Omega.{arith}
 use mathlib.Core.Path.{_≡_, refl, sym, _∙_}
