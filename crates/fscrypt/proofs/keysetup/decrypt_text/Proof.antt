@@ -7,7 +7,7 @@ use Rattle.fscrypt.proofs.keysetup.decrypt_text.Tie as tie
 
 returns : tie.Need-returns
 unfolding decryptName
-returns c = buffer-left _ _ _ (c .before .before .cts-decrypt .ensures)
+returns c = search buffer-left
 
 pub decrypt-text-spec : {M : Type 1} → statement M
 decrypt-text-spec = tie.close (tie.spec (λ c κs. search needs) (λ c. search needs) returns)

@@ -7,7 +7,7 @@ use Rattle.fscrypt.proofs.keysetup.derive_key.Tie as tie
 
 returns : tie.Need-returns
 unfolding derive
-returns c = buffer-left _ _ _ (c .before .ecb-encrypt .ensures)
+returns c = search buffer-left
 
 pub derive-key-spec : {M : Type 1} → statement M
 derive-key-spec = tie.close (tie.spec (λ c. search needs) (λ c. search needs) (λ c κs. search needs) returns)

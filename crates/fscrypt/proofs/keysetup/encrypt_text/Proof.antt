@@ -7,7 +7,7 @@ use Rattle.fscrypt.proofs.keysetup.encrypt_text.Tie as tie
 
 returns : tie.Need-returns
 unfolding encryptName
-returns c = buffer-left _ _ _ (c .before .before .cts-encrypt .ensures)
+returns c = search buffer-left
 
 pub encrypt-text-spec : {M : Type 1} → statement M
 encrypt-text-spec = tie.close (tie.spec (λ c κs. search needs) (λ c. search needs) returns)

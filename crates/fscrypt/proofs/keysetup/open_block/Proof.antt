@@ -7,7 +7,7 @@ use Rattle.fscrypt.proofs.keysetup.open_block.Tie as tie
 
 returns : tie.Need-returns
 unfolding unseal
-returns c = buffer-left _ _ _ (c .before .before .xts-decrypt .ensures)
+returns c = search buffer-left
 
 pub open-block-spec : {M : Type 1} → statement M
 open-block-spec = tie.close (tie.spec (λ c. search needs) (λ c κs. search needs) (λ c. search needs) returns)

@@ -7,7 +7,7 @@ use Rattle.fscrypt.proofs.keysetup.seal_block.Tie as tie
 
 returns : tie.Need-returns
 unfolding seal
-returns c = buffer-left _ _ _ (c .before .before .xts-encrypt .ensures)
+returns c = search buffer-left
 
 pub seal-block-spec : {M : Type 1} → statement M
 seal-block-spec = tie.close (tie.spec (λ c. search needs) (λ c κs. search needs) (λ c. search needs) returns)
