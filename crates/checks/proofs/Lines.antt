@@ -4,8 +4,8 @@ use mathlib.Core.Path.{_≡_, refl, sym, _∙_, ap, ap₂}
 use mathlib.Core.Bool.{Bool, true, false, not, cond}
 use Prim.Native.Nat.{ℕ, _≤_}
 use lib.ListN.{length}
-use lib.Dec.{eqb}
-use borrow.Author.Tests.{eq-eqb, ne-eqb, lt-ltb, le-ltb, le-leb, lt-leb}
+use lib.Dec.{eqb, ltb, leb}
+use borrow.Author.Tests.{eq-eqb, ne-eqb, lt-ltb, le-ltb, le-leb, lt-leb, ltb-true, ltb-false}
 use Rattle.lists.specs.Bytes.{Bytes}
 use Rattle.lists.proofs.Predicates.{not-of-true, not-of-false, bool-via, eq-via, ne-via, lt-via, le-via, full-via, room-via}
 use Rattle.errno.specs.Refusals.{_⇒_, _>>_}
@@ -25,8 +25,8 @@ use Rattle.volume.specs.Volume.{nameOf}
 use Rattle.volume.specs.Lookup.{inodeAt, entryAt}
 use Rattle.volume.specs.DirectoryNames.{isUnreadable}
 use Rattle.volume.specs.Checks.{isNonceNeeded, nonceCheck, samePolicyCheck, firstPolicyCheck, setPolicyCheck}
-use Rattle.volume.specs.declared.InodeNumber.{InodeNumber}
-use Rattle.volume.specs.declared.EntryNumber.{EntryNumber}
+use Rattle.ids.specs.declared.InodeNumber.{InodeNumber}
+use Rattle.ids.specs.declared.EntryNumber.{EntryNumber}
 use Rattle.volume.specs.declared.Inode.{Inode}
 use Rattle.volume.specs.declared.Entry.{Entry}
 use Rattle.volume.specs.declared.Volume.{Volume}
@@ -51,6 +51,14 @@ len-ne-via x k r e h = rw (← e) (ne-eqb _ _ h)
 
 pub policy-via : (b : Bytes) (r : PolicyRead) → r ≡ readPolicy b → r .checked ≡ policyCheck b
 policy-via b r e = ap (λ (p : PolicyRead). p .checked) e ∙ readPolicy-checked b
+
+-- whether a search found one (`is_found`): a name is taken; there is no room, or no such name
+pub found-via : (x k r : ℕ) (t b : Bool) → r ≡ x → t ≡ ltb r k → t ≡ b → ltb x k ≡ b
+found-via x k r t b e h q = rw (← e) (sym h ∙ q)
+
+pub lost-via : (x k r : ℕ) (t b : Bool) → r ≡ x → t ≡ ltb r k → not t ≡ b → leb k x ≡ b
+lost-via x k r true b e h q = rw (← e) (lt-leb k r (ltb-true r k (sym h)) ∙ q)
+lost-via x k r false b e h q = rw (← e) (le-leb k r (ltb-false r k (sym h)) ∙ q)
 
 -- a line that is one table or another, by a test
 pub line-so : (t : Bool) (a b r : Checked) → t ≡ true → r ≡ a → r ≡ cond t a b
@@ -78,7 +86,7 @@ module _ (v : Volume) (i : InodeNumber) (b x : Bytes) (node : Inode) (read : Pol
 
 -- ---- ways through a table: of calls alone, and of calls and comparisons
 
-pub ruleset calls = (stop, skip, halt, go-on, bool-via, lt-via, le-via, full-via, room-via)
+pub ruleset calls = (stop, skip, halt, go-on, bool-via, lt-via, le-via, full-via, room-via, found-via, lost-via)
 
 pub ruleset lines = (calls, not-of-true, not-of-false, eq-eqb, ne-eqb, lt-ltb, le-ltb, le-leb, lt-leb, eq-via, ne-via, kind-eq-via, kind-ne-via, plain-via, len-eq-via, len-ne-via, policy-via)
 

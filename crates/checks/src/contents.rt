@@ -2,9 +2,9 @@
 use crate::shared;
 use errno::Checked;
 use errno::Errno;
+use ids::InodeNumber;
 use lookup::inodes;
 use volume::FREE;
-use volume::InodeNumber;
 use volume::REGULAR;
 use volume::Volume;
 ghost use mathlib.Core.Path.{_≡_};

@@ -4,15 +4,13 @@ use crate::shared::POLICY_REFUSAL;
 use errno::Checked;
 use errno::Errno;
 use fscrypt::fname;
+use ids::EntryNumber;
+use ids::InodeNumber;
 use lookup::climb;
 use lookup::entries;
 use lookup::inodes;
 use volume::DIRECTORY;
-use volume::ENTRY_SLOTS;
-use volume::EntryNumber;
 use volume::FREE;
-use volume::INODE_SLOTS;
-use volume::InodeNumber;
 use volume::SPECIAL;
 use volume::Volume;
 ghost use mathlib.Core.Path.{_≡_};
@@ -53,10 +51,10 @@ fn room_check(v: Volume, p: InodeNumber, kind: u64, x: [u8; 16]) -> Checked
         }
         Checked::Fine => {}
     }
-    if INODE_SLOTS <= inodes::free_inode(v) {
+    if !inodes::is_found(inodes::free_inode(v)) {
         return Checked::Refused(Errno::ENOSPC);
     }
-    if ENTRY_SLOTS <= entries::free_entry(v) {
+    if !entries::is_found(entries::free_entry(v)) {
         return Checked::Refused(Errno::ENOSPC);
     }
     Checked::Fine
@@ -83,7 +81,7 @@ pub fn create_check(v: Volume, p: InodeNumber, kind: u64, name: &[u8], x: [u8; 1
     if shared::lacks_key(v, p) {
         return Checked::Refused(Errno::ENOKEY);
     }
-    if names::entry_of(v, p, name) < ENTRY_SLOTS {
+    if entries::is_found(names::entry_of(v, p, name)) {
         return Checked::Refused(Errno::EEXIST);
     }
     room_check(v, p, kind, x)
@@ -104,10 +102,10 @@ fn linked_check(v: Volume, i: InodeNumber, p: InodeNumber, name: &[u8]) -> Check
     if shared::is_refused_in(v, p, i) {
         return Checked::Refused(POLICY_REFUSAL);
     }
-    if names::entry_of(v, p, name) < ENTRY_SLOTS {
+    if entries::is_found(names::entry_of(v, p, name)) {
         return Checked::Refused(Errno::EEXIST);
     }
-    if ENTRY_SLOTS <= entries::free_entry(v) {
+    if !entries::is_found(entries::free_entry(v)) {
         return Checked::Refused(Errno::ENOSPC);
     }
     Checked::Fine
@@ -164,7 +162,7 @@ fn move_check(
     if climb::is_under_itself(v, moved, p) {
         return Checked::Refused(Errno::EINVAL);
     }
-    if names::entry_of(v, p, name) < ENTRY_SLOTS {
+    if entries::is_found(names::entry_of(v, p, name)) {
         return Checked::Refused(Errno::EEXIST);
     }
     Checked::Fine
@@ -263,7 +261,7 @@ pub fn find_check(v: Volume, p: InodeNumber, name: &[u8]) -> Checked
     if shared::lacks_key(v, p) {
         return Checked::Refused(Errno::ENOKEY);
     }
-    if ENTRY_SLOTS <= names::entry_of(v, p, name) {
+    if !entries::is_found(names::entry_of(v, p, name)) {
         return Checked::Refused(Errno::ENOENT);
     }
     Checked::Fine

@@ -2,13 +2,13 @@
 use crate::shared;
 use errno::Checked;
 use errno::Errno;
+use ids::InodeNumber;
 use lookup::entries;
 use lookup::inodes;
 use policy::Policy;
 use volume::DIRECTORY;
 use volume::FREE;
 use volume::Inode;
-use volume::InodeNumber;
 use volume::Volume;
 ghost use mathlib.Core.Path.{_≡_};
 ghost use Rattle.volume.specs.Checks.{samePolicyCheck, firstPolicyCheck, setPolicyCheck, getPolicyCheck};

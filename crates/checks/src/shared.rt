@@ -1,11 +1,11 @@
 // Tests and chains that requests share.
 use errno::Checked;
 use errno::Errno;
+use ids::InodeNumber;
 use lookup::inodes;
 use volume::DIRECTORY;
 use volume::FREE;
 use volume::Inode;
-use volume::InodeNumber;
 use volume::SYMLINK;
 use volume::Volume;
 ghost use mathlib.Core.Path.{_≡_};

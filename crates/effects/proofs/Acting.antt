@@ -20,8 +20,8 @@ use Rattle.volume.specs.Lookup.{keySlotOf, freeKeySlot, inodeAt, freeInode, ent
 use Rattle.volume.specs.DirectoryNames.{stored}
 use Rattle.volume.specs.Checks.{isNonceNeeded}
 use Rattle.volume.specs.Step.{withKeys, withInodes, withEntries, withInode, childOf, withoutUnheld, effect}
-use Rattle.volume.specs.declared.InodeNumber.{InodeNumber}
-use Rattle.volume.specs.declared.EntryNumber.{EntryNumber}
+use Rattle.ids.specs.declared.InodeNumber.{InodeNumber}
+use Rattle.ids.specs.declared.EntryNumber.{EntryNumber}
 use Rattle.volume.specs.declared.Key.{Key}
 use Rattle.volume.specs.declared.Inode.{Inode}
 use Rattle.volume.specs.declared.Entry.{Entry}
@@ -95,23 +95,24 @@ module _ (C : Cipher) (v : Volume) where
   entry-stored p i n dir s e hd hs he =
       he ∙ ap (λ (y : Name). record { len = y .len; parent = p; inode = i; name = y .bytes }) (hs ∙ ap (λ (d : Inode). packed (stored C v d n)) hd)
 
-  pub create-acts : (p : InodeNumber) (kind : ℕ) (n x : Bytes) (i k : ℕ) (dir node : Inode) (e : Entry) → i ≡ freeInode v → k ≡ freeEntry v → dir ≡ inodeAt v p
-      → node ≡ childOf dir kind x → e ≡ entrySlot p (record { 0 = i }) (stored C v (inodeAt v p) n)
-      → outcome (created (record { 0 = i }) (record { 0 = k })) [] (record { keys = v .keys; inodes = set (v .inodes) i node; entries = set (v .entries) k e })
-      ≡ effect C v (create p kind n x)
+  pub create-acts : (p : InodeNumber) (kind : ℕ) (n x : Bytes) (i : InodeNumber) (k : EntryNumber) (dir node : Inode) (e : Entry) (half next : Volume)
+      → i .0 ≡ freeInode v → k .0 ≡ freeEntry v → dir ≡ inodeAt v p → node ≡ childOf dir kind x → e ≡ entrySlot p i (stored C v (inodeAt v p) n)
+      → half ≡ withInodes v (set (v .inodes) (i .0) node) → next ≡ withEntries half (set (half .entries) (k .0) e)
+      → outcome (created i k) [] next ≡ effect C v (create p kind n x)
   unfolding effect
-  create-acts p kind n x i k dir node e hi hk hd hn he j =
-      outcome (created (record { 0 = hi j }) (record { 0 = hk j })) [] (record {
+  create-acts p kind n x i k dir node e half next hi hk hd hn he hh hv =
+      ap (outcome (created i k) []) (hv ∙ ap (λ (w : Volume). withEntries w (set (w .entries) (k .0) e)) hh)
+      ∙ (λ j. outcome (created (record { 0 = hi j }) (record { 0 = hk j })) [] (record {
         keys = v .keys;
         inodes = set (v .inodes) (hi j) ((hn ∙ ap (λ (d : Inode). childOf d kind x) hd) j);
         entries = set (v .entries) (hk j) ((he ∙ ap (λ (m : ℕ). entrySlot p (record { 0 = m }) (stored C v (inodeAt v p) n)) hi) j);
-      })
+      }))
 
-  pub link-acts : (i p : InodeNumber) (n : Bytes) (k : ℕ) (e : Entry) (next : Volume) → k ≡ freeEntry v → e ≡ entrySlot p i (stored C v (inodeAt v p) n)
-      → next ≡ withEntries v (set (v .entries) k e) → outcome (at (record { 0 = k })) [] next ≡ effect C v (link i p n)
+  pub link-acts : (i p : InodeNumber) (n : Bytes) (k : EntryNumber) (e : Entry) (next : Volume) → k .0 ≡ freeEntry v → e ≡ entrySlot p i (stored C v (inodeAt v p) n)
+      → next ≡ withEntries v (set (v .entries) (k .0) e) → outcome (at k) [] next ≡ effect C v (link i p n)
   unfolding effect
   link-acts i p n k e next hk he hv =
-      ap (outcome (at (record { 0 = k })) []) hv ∙ (λ j. outcome (at (record { 0 = hk j })) [] (withEntries v (set (v .entries) (hk j) (he j))))
+      ap (outcome (at k) []) hv ∙ (λ j. outcome (at (record { 0 = hk j })) [] (withEntries v (set (v .entries) (hk j) (he j))))
 
   pub rename-acts : (n : EntryNumber) (p : InodeNumber) (b : Bytes) (old e : Entry) (next : Volume) → old ≡ entryAt v n
       → e ≡ entrySlot p (old .inode) (stored C v (inodeAt v p) b) → next ≡ withEntries v (set (v .entries) (n .0) e) → outcome done [] next ≡ effect C v (rename n p b)
@@ -140,6 +141,6 @@ module _ (C : Cipher) (v : Volume) where
       ∙ ap (λ (w : Volume). withInodes w (withoutUnheld (w .inodes) (w .entries) (e .inode))) (hc ∙ ap (λ (z : Entry). withEntries v (set (v .entries) (n .0) z)) hz)
       ∙ ap (λ (y : Entry). let es = set (v .entries) (n .0) noEntry in withInodes (withEntries v es) (withoutUnheld (v .inodes) es (y .inode))) he)
 
-  pub find-acts : (p : InodeNumber) (n : Bytes) (i : ℕ) → i ≡ entryNamed v p (stored C v (inodeAt v p) n) → outcome (at (record { 0 = i })) [] v ≡ effect C v (find p n)
+  pub find-acts : (p : InodeNumber) (n : Bytes) (k : EntryNumber) → k .0 ≡ entryNamed v p (stored C v (inodeAt v p) n) → outcome (at k) [] v ≡ effect C v (find p n)
   unfolding effect
-  find-acts p n i h = ap (λ (k : ℕ). outcome (at (record { 0 = k })) [] v) h
+  find-acts p n k h = ap (λ (m : ℕ). outcome (at (record { 0 = m })) [] v) h

@@ -12,17 +12,15 @@ use Rattle.fscrypt.specs.declared.NameRead.{NameRead}
 use Rattle.fscrypt.proofs.Padding.{nameBytes-packed}
 use Rattle.names.specs.Shown.{shownRead}
 use Rattle.volume.specs.Volume.{nameOf}
-use Rattle.volume.specs.Request.{outcome, done, shown, show, seal, unseal}
+use Rattle.volume.specs.Request.{outcome, done, shown, show, seal, unseal, Form, Plain, Decrypted, Encoded}
 use Rattle.volume.specs.Lookup.{inodeAt, entryAt, keyPresent, lacksKey}
 use Rattle.volume.specs.DirectoryNames.{derivedKey, shownName, formIn}
 use Rattle.volume.specs.Step.{effect}
-use Rattle.volume.specs.declared.InodeNumber.{InodeNumber}
-use Rattle.volume.specs.declared.EntryNumber.{EntryNumber}
+use Rattle.ids.specs.declared.InodeNumber.{InodeNumber}
+use Rattle.ids.specs.declared.EntryNumber.{EntryNumber}
 use Rattle.volume.specs.declared.Inode.{Inode}
 use Rattle.volume.specs.declared.Entry.{Entry}
 use Rattle.volume.specs.declared.Volume.{Volume}
-use Rattle.volume.specs.declared.Form.{Form}
-use Rattle.volume.specs.declared.Form.the-variants.{Plain, Decrypted, Encoded}
 use Rattle.volume.proofs.Passed.{key-present}
 
 -- ---- show

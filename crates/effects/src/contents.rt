@@ -1,7 +1,7 @@
 // Seal and open.
 use fscrypt::keysetup;
+use ids::InodeNumber;
 use lookup::inodes;
-use volume::InodeNumber;
 use volume::Reply;
 use volume::Volume;
 ghost use mathlib.Core.Path.{_≡_};

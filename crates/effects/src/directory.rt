@@ -1,6 +1,8 @@
 // Create, link, rename, exchange, remove, find, show.
 use crate::tables;
 use fscrypt::Name;
+use ids::EntryNumber;
+use ids::InodeNumber;
 use lookup::entries;
 use lookup::inodes;
 use lookup::keyring;
@@ -9,10 +11,8 @@ use volume::CreateAnswer;
 use volume::CreateOutcome;
 use volume::Entry;
 use volume::EntryAnswer;
-use volume::EntryNumber;
 use volume::Form;
 use volume::Inode;
-use volume::InodeNumber;
 use volume::LinkOutcome;
 use volume::Reply;
 use volume::ShowAnswer;
@@ -27,7 +27,7 @@ ghost use Rattle.lists.specs.Bytes.{laidOver};
 ghost use Rattle.fscrypt.specs.Cipher.{fscrypt};
 ghost use Rattle.fscrypt.specs.Names.{nameBytes};
 ghost use Rattle.volume.specs.Volume.{inodeSlots, entrySlots, entrySlot};
-ghost use Rattle.volume.specs.Request.{outcome, replied, createAnswered, entryAnswered, showAnswered, create, link, rename, exchange, remove, find, show};
+ghost use Rattle.volume.specs.Request.{outcome, replied, createAnswered, entryAnswered, formAnswered, showAnswered, create, link, rename, exchange, remove, find, show};
 ghost use Rattle.volume.specs.Lookup.{inodeAt, lacksKey, freeInode, freeEntry};
 ghost use Rattle.volume.specs.DirectoryNames.{stored, formIn};
 ghost use Rattle.volume.specs.Step.{withInodes, withInode, childOf, withoutUnheld, effect};
@@ -80,14 +80,12 @@ pub fn create(v: Volume, p: InodeNumber, kind: u64, name: &[u8], x: [u8; 16]) ->
 {
     let i = inodes::free_inode(v);
     let k = entries::free_entry(v);
-    let number = InodeNumber(i as u64);
-    let n = new_inode(inodes::inode_at(v, p), kind, x);
-    let e = stored_entry(v, p, number, name);
-    let mut next = v;
-    next.inodes[i] = n;
-    next.entries[k] = e;
+    let node = new_inode(inodes::inode_at(v, p), kind, x);
+    let e = stored_entry(v, p, i, name);
+    let half = tables::put_inode(v, i, node);
+    let next = tables::put_entry(half, k, e);
     CreateOutcome {
-        answer: CreateAnswer::Created(number, EntryNumber(k as u64)),
+        answer: CreateAnswer::Created(i, k),
         volume: next,
     }
 }
@@ -100,10 +98,9 @@ pub fn link(v: Volume, i: InodeNumber, p: InodeNumber, name: &[u8]) -> LinkOutco
 {
     let k = entries::free_entry(v);
     let e = stored_entry(v, p, i, name);
-    let number = EntryNumber(k as u64);
-    let next = tables::put_entry(v, number, e);
+    let next = tables::put_entry(v, k, e);
     LinkOutcome {
-        answer: EntryAnswer::At(number),
+        answer: EntryAnswer::At(k),
         volume: next,
     }
 }
@@ -180,13 +177,13 @@ pub fn find(v: Volume, p: InodeNumber, name: &[u8]) -> EntryAnswer
     requires { ⌜ lacksKey v (inodeAt v p) ≡ false ⌝ }
     ensures { λ r. ⌜ outcome (entryAnswered r) [] v ≡ effect fscrypt v (find p (now (name .entry))) ⌝ }
 {
-    let i = names::entry_of(v, p, name);
-    EntryAnswer::At(EntryNumber(i as u64))
+    let n = names::entry_of(v, p, name);
+    EntryAnswer::At(n)
 }
 
 // How names of this directory are shown.
 fn form_in(v: Volume, dir: Inode) -> Form
-    ensures { λ r. ⌜ r ≡ formIn v dir ⌝ }
+    ensures { λ r. ⌜ formAnswered r ≡ formIn v dir ⌝ }
 {
     if !dir.encrypted {
         return Form::Plain;

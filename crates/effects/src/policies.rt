@@ -1,9 +1,9 @@
 // Set policy, get policy.
 use crate::tables;
+use ids::InodeNumber;
 use lookup::inodes;
 use volume::Changed;
 use volume::DIRECTORY;
-use volume::InodeNumber;
 use volume::PolicyOutcome;
 use volume::Reply;
 use volume::Volume;

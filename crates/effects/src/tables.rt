@@ -1,10 +1,10 @@
 // Stores in the tables of a volume; a number that no record has changes nothing.
+use ids::EntryNumber;
+use ids::InodeNumber;
 use volume::ENTRY_SLOTS;
 use volume::Entry;
-use volume::EntryNumber;
 use volume::INODE_SLOTS;
 use volume::Inode;
-use volume::InodeNumber;
 use volume::Volume;
 ghost use mathlib.Core.Path.{_≡_};
 ghost use lib.ListN.{set};

@@ -1,5 +1,6 @@
 // A stored name as it is shown without its key.
 use crate::Name;
+use ids::EntryNumber;
 use lists::zeros;
 ghost use mathlib.Core.Path.{_≡_};
 ghost use mathlib.Core.List.{_++_};
@@ -70,23 +71,23 @@ fn put_letters(into: [u8; 255], at: usize, s: &[u8]) -> [u8; 255]
 }
 
 // A name of more than 160 bytes: the letters of the first 160, between a mark and the entry's number.
-fn encode_long(s: &[u8], entry: u64) -> Name
+fn encode_long(s: &[u8], entry: EntryNumber) -> Name
     requires { ⌜ 160 < length (now s) ⌝ }
-    ensures { λ r. ⌜ r ≡ packed (Encoded.encoded (now (s .entry)) entry) ⌝ }
+    ensures { λ r. ⌜ r ≡ packed (Encoded.encoded (now (s .entry)) (entry .0)) ⌝ }
 {
     let mut bytes = put_letters(zeros::zeros255(), 1, &s[..160]);
     bytes[0] = b'_';
-    bytes[215] = lists::hex_digit((entry / 16 % 16) as u8);
-    bytes[216] = lists::hex_digit((entry % 16) as u8);
+    bytes[215] = lists::hex_digit((entry.0 / 16 % 16) as u8);
+    bytes[216] = lists::hex_digit((entry.0 % 16) as u8);
     Name {
         len: 217,
         bytes: bytes,
     }
 }
 
-fn encode_short(s: &[u8], entry: u64) -> Name
+fn encode_short(s: &[u8], entry: EntryNumber) -> Name
     requires { ⌜ length (now s) ≤ 160 ⌝ }
-    ensures { λ r. ⌜ r ≡ packed (Encoded.encoded (now (s .entry)) entry) ⌝ }
+    ensures { λ r. ⌜ r ≡ packed (Encoded.encoded (now (s .entry)) (entry .0)) ⌝ }
 {
     let bytes = put_letters(zeros::zeros255(), 0, s);
     let len = (4 * s.len() + 2) / 3;
@@ -97,8 +98,8 @@ fn encode_short(s: &[u8], entry: u64) -> Name
 }
 
 // The stored name of an entry as it is shown without its key.
-pub fn encode_name(stored: Name, entry: u64) -> Name
-    ensures { λ r. ⌜ r ≡ packed (Encoded.encoded (nameBytes stored) entry) ⌝ }
+pub fn encode_name(stored: Name, entry: EntryNumber) -> Name
+    ensures { λ r. ⌜ r ≡ packed (Encoded.encoded (nameBytes stored) (entry .0)) ⌝ }
 {
     let bytes = stored.bytes;
     let len = stored.len as usize;

@@ -6,7 +6,7 @@ use native.Mathlib.Numerals.{sub-one}
 use borrow.Author.Tests.{eq-eqb, ne-eqb}
 use Rattle.volume.specs.Lookup.{climbFrom, parentOf}
 use Rattle.volume.specs.declared.Volume.{Volume}
-use Rattle.volume.specs.declared.InodeNumber.{InodeNumber}
+use Rattle.ids.specs.declared.InodeNumber.{InodeNumber}
 use Rattle.volume.specs.declared.Met.the-variants.{Moved, Root, Neither}
 
 module _ (v : Volume) (moved at : InodeNumber) where

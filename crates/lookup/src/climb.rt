@@ -1,10 +1,9 @@
 // The climb from a directory towards the root, which finds whether a directory would be put under itself.
 use crate::entries;
 use crate::inodes;
+use ids::InodeNumber;
 use volume::DIRECTORY;
-use volume::ENTRY_SLOTS;
 use volume::INODE_SLOTS;
-use volume::InodeNumber;
 use volume::Met;
 use volume::Volume;
 ghost use mathlib.Core.Path.{_≡_};
@@ -16,12 +15,8 @@ pub fn parent_of(v: Volume, n: InodeNumber) -> InodeNumber
     ensures { λ r. ⌜ r ≡ parentOf v n ⌝ }
 {
     let t = v.entries;
-    let i = entries::first_link(t, n);
-    if i < ENTRY_SLOTS {
-        let e = v.entries[i];
-        return e.parent;
-    }
-    InodeNumber(0)
+    let e = entries::entry_at(v, entries::first_link(t, n));
+    e.parent
 }
 
 // Climbs until the moved directory or the root is met, whichever is first. The steps are counted, so that it ends on any volume.

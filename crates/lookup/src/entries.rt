@@ -1,15 +1,16 @@
 // Directory entries: which has a number, where there is room, which a directory has, which has a name there, and which holds an inode.
 use fscrypt::Name;
+use ids::EntryNumber;
+use ids::InodeNumber;
 use lists::zeros;
 use volume::ENTRY_SLOTS;
 use volume::Entry;
-use volume::EntryNumber;
-use volume::InodeNumber;
 use volume::Volume;
 ghost use mathlib.Core.Path.{_≡_};
+ghost use lib.Dec.{ltb};
 ghost use Rattle.lists.specs.Bytes.{same};
 ghost use Rattle.fscrypt.specs.Names.{nameBytes};
-ghost use Rattle.volume.specs.Volume.{noEntry, nameOf};
+ghost use Rattle.volume.specs.Volume.{entrySlots, noEntry, nameOf};
 ghost use Rattle.volume.specs.Lookup.{entryAt, isVacant, freeEntry, isIn, isNamed, entryNamed, firstChild, hasEntries, isLink, firstLink, isHeld};
 
 // A free record: all zeros.
@@ -36,6 +37,13 @@ pub fn entry_at(v: Volume, n: EntryNumber) -> Entry
     no_entry()
 }
 
+// Whether a search found one: where there is none, it answers the number of slots, which names nothing.
+pub fn is_found(n: EntryNumber) -> bool
+    ensures { λ r. ⌜ r ≡ ltb (n .0) entrySlots ⌝ }
+{
+    n.0 < ENTRY_SLOTS as u64
+}
+
 // A record is free if its name has no bytes.
 fn is_vacant(e: Entry) -> bool
     ensures { λ r. ⌜ r ≡ isVacant e ⌝ }
@@ -44,18 +52,18 @@ fn is_vacant(e: Entry) -> bool
 }
 
 // The lowest free number, or the number of slots.
-pub fn free_entry(v: Volume) -> usize
-    ensures { λ r. ⌜ r ≡ freeEntry v ⌝ }
+pub fn free_entry(v: Volume) -> EntryNumber
+    ensures { λ r. ⌜ r .0 ≡ freeEntry v ⌝ }
 {
     let mut slot: usize = 0;
     while slot < ENTRY_SLOTS {
         let e = v.entries[slot];
         if is_vacant(e) {
-            return slot;
+            break;
         }
         slot += 1;
     }
-    slot
+    EntryNumber(slot as u64)
 }
 
 // Whether the entry is in use and stands in this directory.
@@ -69,25 +77,25 @@ fn is_in(e: Entry, p: InodeNumber) -> bool
 }
 
 // The first entry of this directory, or the number of slots.
-pub fn first_child(v: Volume, p: InodeNumber) -> usize
-    ensures { λ r. ⌜ r ≡ firstChild v p ⌝ }
+pub fn first_child(v: Volume, p: InodeNumber) -> EntryNumber
+    ensures { λ r. ⌜ r .0 ≡ firstChild v p ⌝ }
 {
     let mut i: usize = 0;
     while i < ENTRY_SLOTS {
         let e = v.entries[i];
         if is_in(e, p) {
-            return i;
+            break;
         }
         i += 1;
     }
-    i
+    EntryNumber(i as u64)
 }
 
 // Whether this directory has entries.
 pub fn has_entries(v: Volume, p: InodeNumber) -> bool
     ensures { λ r. ⌜ r ≡ hasEntries v p ⌝ }
 {
-    first_child(v, p) < ENTRY_SLOTS
+    is_found(first_child(v, p))
 }
 
 // Whether the entry has this stored name, byte for byte.
@@ -112,18 +120,18 @@ fn is_named(e: Entry, p: InodeNumber, s: Name) -> bool
 }
 
 // The entry of this directory with this stored name, or the number of slots.
-pub fn entry_named(v: Volume, p: InodeNumber, s: Name) -> usize
-    ensures { λ r. ⌜ r ≡ entryNamed v p (nameBytes s) ⌝ }
+pub fn entry_named(v: Volume, p: InodeNumber, s: Name) -> EntryNumber
+    ensures { λ r. ⌜ r .0 ≡ entryNamed v p (nameBytes s) ⌝ }
 {
     let mut i: usize = 0;
     while i < ENTRY_SLOTS {
         let e = v.entries[i];
         if is_named(e, p, s) {
-            return i;
+            break;
         }
         i += 1;
     }
-    i
+    EntryNumber(i as u64)
 }
 
 // Whether the entry is in use and holds this inode.
@@ -137,23 +145,23 @@ fn is_link(e: Entry, i: InodeNumber) -> bool
 }
 
 // The first entry that holds this inode, or the number of slots. It takes the table alone, so that one can be asked that an entry was taken out of.
-pub fn first_link(entries: [Entry; ENTRY_SLOTS], n: InodeNumber) -> usize
-    ensures { λ r. ⌜ r ≡ firstLink entries n ⌝ }
+pub fn first_link(entries: [Entry; ENTRY_SLOTS], n: InodeNumber) -> EntryNumber
+    ensures { λ r. ⌜ r .0 ≡ firstLink entries n ⌝ }
 {
     let mut i: usize = 0;
     while i < ENTRY_SLOTS {
         let e = entries[i];
         if is_link(e, n) {
-            return i;
+            break;
         }
         i += 1;
     }
-    i
+    EntryNumber(i as u64)
 }
 
 // Whether an entry holds this inode.
 pub fn is_held(entries: [Entry; ENTRY_SLOTS], n: InodeNumber) -> bool
     ensures { λ r. ⌜ r ≡ isHeld entries n ⌝ }
 {
-    first_link(entries, n) < ENTRY_SLOTS
+    is_found(first_link(entries, n))
 }

@@ -1,14 +1,15 @@
 // Inodes: which has a number, where there is room, and which bears a nonce.
+use ids::InodeNumber;
 use policy::Context;
 use policy::Policy;
 use volume::FREE;
 use volume::INODE_SLOTS;
 use volume::Inode;
-use volume::InodeNumber;
 use volume::SYMLINK;
 use volume::Volume;
 ghost use mathlib.Core.Path.{_≡_};
-ghost use Rattle.volume.specs.Volume.{noInode, encryptedInode};
+ghost use lib.Dec.{ltb};
+ghost use Rattle.volume.specs.Volume.{inodeSlots, noInode, encryptedInode};
 ghost use Rattle.volume.specs.Checks.{isNonceNeeded};
 ghost use Rattle.volume.specs.Lookup.{inodeAt, isFree, freeInode, bearsNonce, nonceHolder, isBorne};
 
@@ -50,6 +51,13 @@ pub fn inode_at(v: Volume, n: InodeNumber) -> Inode
     no_inode()
 }
 
+// Whether a search found one: where there is none, it answers the number of slots, which names nothing.
+pub fn is_found(n: InodeNumber) -> bool
+    ensures { λ r. ⌜ r ≡ ltb (n .0) inodeSlots ⌝ }
+{
+    n.0 < INODE_SLOTS as u64
+}
+
 // A record is free if its inode has no kind.
 fn is_free_inode(i: Inode) -> bool
     ensures { λ r. ⌜ r ≡ isFree i ⌝ }
@@ -58,18 +66,18 @@ fn is_free_inode(i: Inode) -> bool
 }
 
 // The lowest free number, or the number of slots.
-pub fn free_inode(v: Volume) -> usize
-    ensures { λ r. ⌜ r ≡ freeInode v ⌝ }
+pub fn free_inode(v: Volume) -> InodeNumber
+    ensures { λ r. ⌜ r .0 ≡ freeInode v ⌝ }
 {
     let mut i: usize = 0;
     while i < INODE_SLOTS {
         let n = v.inodes[i];
         if is_free_inode(n) {
-            return i;
+            break;
         }
         i += 1;
     }
-    i
+    InodeNumber(i as u64)
 }
 
 // Whether the inode has a context with this nonce.
@@ -85,25 +93,25 @@ fn bears_nonce(i: Inode, x: [u8; 16]) -> bool
 }
 
 // The first inode that bears this nonce, or the number of slots.
-pub fn nonce_holder(v: Volume, x: [u8; 16]) -> usize
-    ensures { λ r. ⌜ r ≡ nonceHolder v x ⌝ }
+pub fn nonce_holder(v: Volume, x: [u8; 16]) -> InodeNumber
+    ensures { λ r. ⌜ r .0 ≡ nonceHolder v x ⌝ }
 {
     let mut i: usize = 0;
     while i < INODE_SLOTS {
         let n = v.inodes[i];
         if bears_nonce(n, x) {
-            return i;
+            break;
         }
         i += 1;
     }
-    i
+    InodeNumber(i as u64)
 }
 
 // Whether an inode bears this nonce.
 pub fn is_borne(v: Volume, x: [u8; 16]) -> bool
     ensures { λ r. ⌜ r ≡ isBorne v x ⌝ }
 {
-    nonce_holder(v, x) < INODE_SLOTS
+    is_found(nonce_holder(v, x))
 }
 
 // Whether a child of this directory has a context.

@@ -1,10 +1,10 @@
 // Runs 100,000 mixed requests on one volume, in an encrypted directory whose key is held, and prints how many were done. bench/requests times it.
+use ids::EntryNumber;
+use ids::InodeNumber;
 use libc::STDOUT_FILENO;
 use volume::Changed;
 use volume::CreateAnswer;
 use volume::EntryAnswer;
-use volume::EntryNumber;
-use volume::InodeNumber;
 use volume::Reply;
 use volume::ShowAnswer;
 use volume::Volume;

@@ -5,11 +5,11 @@ use fscrypt::NameRead;
 use fscrypt::encode;
 use fscrypt::fname;
 use fscrypt::keysetup;
+use ids::EntryNumber;
+use ids::InodeNumber;
 use lookup::keyring;
 use volume::Entry;
-use volume::EntryNumber;
 use volume::Inode;
-use volume::InodeNumber;
 use volume::Volume;
 ghost use mathlib.Core.Path.{_≡_};
 ghost use mathlib.Core.Bool.{true, false};
@@ -53,10 +53,10 @@ pub fn stored_name(v: Volume, dir: Inode, name: &[u8]) -> Name
 }
 
 // The entry that bears this name in the directory, or the number of slots.
-pub fn entry_of(v: Volume, p: InodeNumber, name: &[u8]) -> usize
+pub fn entry_of(v: Volume, p: InodeNumber, name: &[u8]) -> EntryNumber
     requires { ⌜ length (now name) ≤ 255 ⌝ }
     requires { ⌜ lacksKey v (inodeAt v p) ≡ false ⌝ }
-    ensures { λ r. ⌜ r ≡ entryNamed v p (stored fscrypt v (inodeAt v p) (now (name .entry))) ⌝ }
+    ensures { λ r. ⌜ r .0 ≡ entryNamed v p (stored fscrypt v (inodeAt v p) (now (name .entry))) ⌝ }
 {
     let dir = lookup::inodes::inode_at(v, p);
     lookup::entries::entry_named(v, p, stored_name(v, dir, name))
@@ -82,7 +82,7 @@ pub fn shown_name(v: Volume, dir: Inode, n: EntryNumber, e: Entry) -> NameRead
         };
     }
     if !keyring::key_present(v, dir) {
-        let letters = encode::encode_name(name, n.0);
+        let letters = encode::encode_name(name, n);
         return NameRead {
             checked: Checked::Fine,
             name: letters,

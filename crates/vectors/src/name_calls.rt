@@ -8,6 +8,7 @@ use fscrypt::NameRead;
 use fscrypt::encode;
 use fscrypt::fname;
 use fscrypt::keysetup;
+use ids::EntryNumber;
 use policy::Context;
 use policy::ContextRead;
 use script::Number;
@@ -194,5 +195,5 @@ fn on_encode(args: &[u8]) {
         answers::malformed();
         return;
     }
-    write_name(encode::encode_name(stored_name(stored_word), number));
+    write_name(encode::encode_name(stored_name(stored_word), EntryNumber(number)));
 }

@@ -50,6 +50,7 @@ create-check-spec =
     (λ c κs. search needs)
     returns-4
     entry-of-requires
+    (λ c κs. search needs)
     returns-5
     (λ c κs. search needs)
     returns-6)

@@ -44,5 +44,6 @@ find-check-spec =
     (λ c κs. search needs)
     returns-3
     entry-of-requires
+    (λ c κs. search needs)
     returns-4
     returns-5)

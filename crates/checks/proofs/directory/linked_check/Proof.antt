@@ -37,7 +37,9 @@ linked-check-spec =
     (λ c κs. search needs)
     returns-3
     entry-of-requires
+    (λ c κs. search needs)
     returns-4
+    (λ c κs. search needs)
     (λ c κs. search needs)
     returns-5
     returns-6)

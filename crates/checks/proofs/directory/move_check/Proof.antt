@@ -46,5 +46,6 @@ move-check-spec =
     (λ c κs. search needs)
     returns-5
     entry-of-requires
+    (λ c κs. search needs)
     returns-6
     returns-7)

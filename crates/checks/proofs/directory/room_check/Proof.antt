@@ -25,7 +25,9 @@ room-check-spec =
     returns
     (λ c. search needs)
     (λ c κs. search needs)
+    (λ c κs. search needs)
     returns-2
+    (λ c κs. search needs)
     (λ c κs. search needs)
     returns-3
     returns-4)

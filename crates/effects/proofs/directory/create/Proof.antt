@@ -7,10 +7,13 @@ use Rattle.effects.proofs.directory.create.Tie as tie
 
 returns : tie.Need-returns
 returns c =
-    let i = c .before .before .before .before .free-inode in
-    let k = c .before .before .before .free-entry in
-    let d = c .before .before .inode-at in
-    create-acts fscrypt _ _ _ _ _ (i .result) (k .result) (d .result) _ _ (i .ensures) (k .ensures) (d .ensures) (c .before .new-inode .ensures) (c .stored-entry .ensures)
+    let s = c .before .before .before .before in
+    let i = s .before .before .free-inode in
+    let k = s .before .free-entry in
+    let n = c .before .before .before .new-inode in
+    let e = c .before .before .stored-entry in
+    create-acts fscrypt _ _ _ _ _ (i .result) (k .result) (s .inode-at .result) (n .result) (e .result) (c .before .put-inode .result) _
+    (i .ensures) (k .ensures) (s .inode-at .ensures) (n .ensures) (e .ensures) (c .before .put-inode .ensures) (c .put-entry .ensures)
 
 pub create-spec : {M : Type 1} → statement M
 create-spec =
@@ -21,8 +24,6 @@ create-spec =
     (λ c κs. search needs)
     (λ c κs. search needs)
     (λ c κs. search needs)
-    (λ c. search needs)
-    (λ c. search needs)
-    (λ c. search needs)
-    (λ c. search needs)
+    (λ c κs. search needs)
+    (λ c κs. search needs)
     returns)

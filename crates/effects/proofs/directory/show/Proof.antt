@@ -1,5 +1,6 @@
 -- `show`: the entry, its directory and its inode as they were read, and the name as it was shown. Assumes nothing.
 use Rattle.fscrypt.specs.Cipher.{fscrypt}
+use Rattle.volume.specs.Request.{formAnswered}
 use Rattle.effects.proofs.Showing.{show-acts}
 use borrow.Author.Needs.{needs}
 use Rattle.effects.proofs.directory.show.Statement.{statement}
@@ -10,7 +11,7 @@ returns c =
     let k = c .before .before .before .before .before .before .before in
     let e = k .before .before .before .before .entry-at in
     let d = k .before .inode-at in
-    show-acts fscrypt _ _ _ _ (e .result) (d .result) (c .before .inode-at2 .result) (k .shown-name .result) (c .form-in .result) (e .ensures) (d .ensures) (k .shown-name .ensures)
+    show-acts fscrypt _ _ _ _ (e .result) (d .result) (c .before .inode-at2 .result) (k .shown-name .result) (formAnswered (c .form-in .result)) (e .ensures) (d .ensures) (k .shown-name .ensures)
     (c .before .before .before .before .copy-name .ensures) (c .before .inode-at2 .ensures) (c .form-in .ensures)
 
 pub show-spec : {M : Type 1} → statement M

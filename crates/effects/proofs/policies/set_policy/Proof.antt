@@ -13,7 +13,7 @@ returns-2 c =
     let n = c .before .before .before .before .before .inode-at in
     let r = c .before .before .before .read-policy in
     let d = c .before .encrypted-inode in
-    policy-set fscrypt _ _ _ _ (n .result) (n .ensures) (c .before .before .before .before .if1 .left) (r .result) (d .result) _ (r .ensures) (d .ensures) (c .put-inode .ensures)
+    policy-set fscrypt _ _ _ _ (n .result) (n .ensures) (c .before .before .before .before .if1 .left) (r .result) (d .result) _ (r .ensures .read) (d .ensures) (c .put-inode .ensures)
 
 pub set-policy-spec : {M : Type 1} → statement M
 set-policy-spec =

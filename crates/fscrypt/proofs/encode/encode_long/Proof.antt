@@ -15,7 +15,9 @@ put-letters-requires : tie.Need-put-letters-requires
 put-letters-requires c κs = (omega arith, omega (arith, length-take-le 160 (now (c .before .before .before .args .s)) (omega arith)))
 
 returns : tie.Need-returns
-returns c = packed-long _ _ _ _ _ _ (c .before .before .before .before .before .before .pre) (c .before .before .before .before .zeros255 .ensures) (c .before .before .put-letters .ensures) (c .before .hex-digit .ensures) (c .hex-digit2 .ensures)
+returns c =
+    let s = c .before .before .before .before in
+    packed-long _ _ _ _ _ _ (s .before .before .before .before .pre) (s .before .before .zeros255 .ensures) (s .put-letters .ensures) (c .before .before .hex-digit .ensures) (c .hex-digit2 .ensures)
 
 pub encode-long-spec : {M : Type 1} → statement M
 encode-long-spec =

@@ -29,10 +29,6 @@ element-copy-out-e c = search needs
 is-named-requires : tie.Need-is-named-requires Inv-loop μ-loop
 is-named-requires c κs = search needs
 
-returns : tie.Need-returns Inv-loop μ-loop
-unfolding entryNamed
-returns c = found (c .before .before .before .before .loop .inv) (omega arith) _ (c .before .is-named .ensures) (c .if1 .taken)
-
 add-i : tie.Need-add-i Inv-loop μ-loop
 add-i c = search needs
 
@@ -42,9 +38,13 @@ loop-less c = search needs
 loop-again : tie.Need-loop-again Inv-loop μ-loop
 loop-again c = passed (c .before .before .before .before .loop .inv) (omega arith) _ (c .before .is-named .ensures) (c .if1 .left)
 
+returns : tie.Need-returns Inv-loop μ-loop
+unfolding entryNamed
+returns c = ended (c .before .loop .inv) (omega arith)
+
 returns-2 : tie.Need-returns-2 Inv-loop μ-loop
 unfolding entryNamed
-returns-2 c = ended (c .before .loop .inv) (omega arith)
+returns-2 c = found (c .before .before .before .before .loop .inv) (omega arith) _ (c .before .is-named .ensures) (c .if1 .taken)
 
 pub entry-named-spec : {M : Type 1} → statement M
 entry-named-spec =
@@ -56,8 +56,8 @@ entry-named-spec =
     mul-e
     element-copy-out-e
     is-named-requires
-    returns
     add-i
     loop-less
     loop-again
+    returns
     returns-2)

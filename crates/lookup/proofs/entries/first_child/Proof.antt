@@ -28,10 +28,6 @@ element-copy-out-e c = search needs
 is-in-requires : tie.Need-is-in-requires Inv-loop μ-loop
 is-in-requires c κs = search needs
 
-returns : tie.Need-returns Inv-loop μ-loop
-unfolding firstChild
-returns c = found (c .before .before .before .before .loop .inv) (omega arith) _ (c .before .is-in .ensures) (c .if1 .taken)
-
 add-i : tie.Need-add-i Inv-loop μ-loop
 add-i c = search needs
 
@@ -41,9 +37,13 @@ loop-less c = search needs
 loop-again : tie.Need-loop-again Inv-loop μ-loop
 loop-again c = passed (c .before .before .before .before .loop .inv) (omega arith) _ (c .before .is-in .ensures) (c .if1 .left)
 
+returns : tie.Need-returns Inv-loop μ-loop
+unfolding firstChild
+returns c = ended (c .before .loop .inv) (omega arith)
+
 returns-2 : tie.Need-returns-2 Inv-loop μ-loop
 unfolding firstChild
-returns-2 c = ended (c .before .loop .inv) (omega arith)
+returns-2 c = found (c .before .before .before .before .loop .inv) (omega arith) _ (c .before .is-in .ensures) (c .if1 .taken)
 
 pub first-child-spec : {M : Type 1} → statement M
 first-child-spec =
@@ -55,8 +55,8 @@ first-child-spec =
     mul-e
     element-copy-out-e
     is-in-requires
-    returns
     add-i
     loop-less
     loop-again
+    returns
     returns-2)

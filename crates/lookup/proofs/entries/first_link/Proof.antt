@@ -27,10 +27,6 @@ array-copy-out-e c = search needs
 is-link-requires : tie.Need-is-link-requires Inv-loop μ-loop
 is-link-requires c κs = search needs
 
-returns : tie.Need-returns Inv-loop μ-loop
-unfolding firstLink
-returns c = found (c .before .before .before .before .loop .inv) (omega arith) _ (c .before .is-link .ensures) (c .if1 .taken)
-
 add-i : tie.Need-add-i Inv-loop μ-loop
 add-i c = search needs
 
@@ -40,9 +36,13 @@ loop-less c = search needs
 loop-again : tie.Need-loop-again Inv-loop μ-loop
 loop-again c = passed (c .before .before .before .before .loop .inv) (omega arith) _ (c .before .is-link .ensures) (c .if1 .left)
 
+returns : tie.Need-returns Inv-loop μ-loop
+unfolding firstLink
+returns c = ended (c .before .loop .inv) (omega arith)
+
 returns-2 : tie.Need-returns-2 Inv-loop μ-loop
 unfolding firstLink
-returns-2 c = ended (c .before .loop .inv) (omega arith)
+returns-2 c = found (c .before .before .before .before .loop .inv) (omega arith) _ (c .before .is-link .ensures) (c .if1 .taken)
 
 pub first-link-spec : {M : Type 1} → statement M
 first-link-spec =
@@ -54,8 +54,8 @@ first-link-spec =
     mul-e
     array-copy-out-e
     is-link-requires
-    returns
     add-i
     loop-less
     loop-again
+    returns
     returns-2)

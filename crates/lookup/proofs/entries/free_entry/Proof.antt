@@ -28,10 +28,6 @@ element-copy-out-e c = search needs
 is-vacant-requires : tie.Need-is-vacant-requires Inv-loop μ-loop
 is-vacant-requires c κs = search needs
 
-returns : tie.Need-returns Inv-loop μ-loop
-unfolding freeEntry
-returns c = found (c .before .before .before .before .loop .inv) (omega arith) _ (c .before .is-vacant .ensures) (c .if1 .taken)
-
 add-slot : tie.Need-add-slot Inv-loop μ-loop
 add-slot c = search needs
 
@@ -41,9 +37,13 @@ loop-less c = search needs
 loop-again : tie.Need-loop-again Inv-loop μ-loop
 loop-again c = passed (c .before .before .before .before .loop .inv) (omega arith) _ (c .before .is-vacant .ensures) (c .if1 .left)
 
+returns : tie.Need-returns Inv-loop μ-loop
+unfolding freeEntry
+returns c = ended (c .before .loop .inv) (omega arith)
+
 returns-2 : tie.Need-returns-2 Inv-loop μ-loop
 unfolding freeEntry
-returns-2 c = ended (c .before .loop .inv) (omega arith)
+returns-2 c = found (c .before .before .before .before .loop .inv) (omega arith) _ (c .before .is-vacant .ensures) (c .if1 .taken)
 
 pub free-entry-spec : {M : Type 1} → statement M
 free-entry-spec =
@@ -55,8 +55,8 @@ free-entry-spec =
     mul-e
     element-copy-out-e
     is-vacant-requires
-    returns
     add-slot
     loop-less
     loop-again
+    returns
     returns-2)

@@ -28,10 +28,6 @@ element-copy-out-n c = search needs
 is-free-inode-requires : tie.Need-is-free-inode-requires Inv-loop μ-loop
 is-free-inode-requires c κs = search needs
 
-returns : tie.Need-returns Inv-loop μ-loop
-unfolding freeInode
-returns c = found (c .before .before .before .before .loop .inv) (omega arith) _ (c .before .is-free-inode .ensures) (c .if1 .taken)
-
 add-i : tie.Need-add-i Inv-loop μ-loop
 add-i c = search needs
 
@@ -41,9 +37,13 @@ loop-less c = search needs
 loop-again : tie.Need-loop-again Inv-loop μ-loop
 loop-again c = passed (c .before .before .before .before .loop .inv) (omega arith) _ (c .before .is-free-inode .ensures) (c .if1 .left)
 
+returns : tie.Need-returns Inv-loop μ-loop
+unfolding freeInode
+returns c = ended (c .before .loop .inv) (omega arith)
+
 returns-2 : tie.Need-returns-2 Inv-loop μ-loop
 unfolding freeInode
-returns-2 c = ended (c .before .loop .inv) (omega arith)
+returns-2 c = found (c .before .before .before .before .loop .inv) (omega arith) _ (c .before .is-free-inode .ensures) (c .if1 .taken)
 
 pub free-inode-spec : {M : Type 1} → statement M
 free-inode-spec =
@@ -55,8 +55,8 @@ free-inode-spec =
     mul-n
     element-copy-out-n
     is-free-inode-requires
-    returns
     add-i
     loop-less
     loop-again
+    returns
     returns-2)

@@ -28,10 +28,6 @@ element-copy-out-n c = search needs
 bears-nonce-requires : tie.Need-bears-nonce-requires Inv-loop μ-loop
 bears-nonce-requires c κs = search needs
 
-returns : tie.Need-returns Inv-loop μ-loop
-unfolding nonceHolder
-returns c = found (c .before .before .before .before .loop .inv) (omega arith) _ (c .before .bears-nonce .ensures) (c .if1 .taken)
-
 add-i : tie.Need-add-i Inv-loop μ-loop
 add-i c = search needs
 
@@ -41,9 +37,13 @@ loop-less c = search needs
 loop-again : tie.Need-loop-again Inv-loop μ-loop
 loop-again c = passed (c .before .before .before .before .loop .inv) (omega arith) _ (c .before .bears-nonce .ensures) (c .if1 .left)
 
+returns : tie.Need-returns Inv-loop μ-loop
+unfolding nonceHolder
+returns c = ended (c .before .loop .inv) (omega arith)
+
 returns-2 : tie.Need-returns-2 Inv-loop μ-loop
 unfolding nonceHolder
-returns-2 c = ended (c .before .loop .inv) (omega arith)
+returns-2 c = found (c .before .before .before .before .loop .inv) (omega arith) _ (c .before .bears-nonce .ensures) (c .if1 .taken)
 
 pub nonce-holder-spec : {M : Type 1} → statement M
 nonce-holder-spec =
@@ -55,8 +55,8 @@ nonce-holder-spec =
     mul-n
     element-copy-out-n
     bears-nonce-requires
-    returns
     add-i
     loop-less
     loop-again
+    returns
     returns-2)
