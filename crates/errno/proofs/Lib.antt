@@ -1,2 +1,3 @@
 -- The laws of errno.
 pub mod Chains
+pub mod ChainMeanings

@@ -1,2 +1,3 @@
 -- The definitions of errno.
 pub mod Refusals
+pub mod Meanings

@@ -1,6 +1,7 @@
 // The refusals, and what a chain of checks comes to. specs/Refusals.antt has Linux's numbers.
 ghost use mathlib.Core.Path.{_≡_};
 ghost use Rattle.errno.specs.Refusals.{number};
+ghost use Rattle.errno.specs.Meanings.{TableMeanings};
 
 pub enum Errno {
     EPERM,
@@ -44,3 +45,8 @@ pub fn number_of(e: Errno) -> u8
         Errno::ENOKEY => 126,
     }
 }
+
+// What a table of checks means: which refusal it comes to, and when it is passed. The function does nothing: its `ensures` is the theorem.
+pub fn tables_mean()
+    ensures { λ _. ⌜ TableMeanings ⌝ }
+{}

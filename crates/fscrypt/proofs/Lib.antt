@@ -5,4 +5,9 @@ pub mod Shape
 pub mod Shown
 pub mod Distinct
 pub mod Lettering
+pub mod NameMeanings
+pub mod PaddingMeanings
+pub mod LetterMeanings
+pub mod Meanings
 mod Packing
+mod Published

@@ -69,12 +69,13 @@ padded-bytes flags n h = let k = paddedLength flags (length n) - length n in app
 
 -- ---- plain names
 
-pub record PlainName (n : Bytes) : Type 0 where
+-- the tests of a name that passed its check
+pub record PassedName (n : Bytes) : Type 0 where
   pub some-bytes : isEmpty n ≡ false
   pub not-long : length n ≤ 255
   pub good : isBadName n ≡ false
 
-pub plain-name : (n : Bytes) → nameCheck n ≡ Fine → PlainName n
+pub plain-name : (n : Bytes) → nameCheck n ≡ Fine → PassedName n
 unfolding nameCheck
 plain-name n h =
     let a = passed-test (isEmpty n) ENOENT _ h in
@@ -88,7 +89,7 @@ name-fits n h = plain-name n h .not-long
 -- ---- what was padded is read back
 
 -- the first NUL of a padded name is where the padding starts
-first-nul : (n : Bytes) (k : ℕ) → length n ≤ firstAt isNulOrSlash n → firstAt isNul (n ++ zeros k) ≡ length n
+pub first-nul : (n : Bytes) (k : ℕ) → length n ≤ firstAt isNulOrSlash n → firstAt isNul (n ++ zeros k) ≡ length n
 unfolding firstAt zeros
 first-nul [] zero h = refl
 first-nul [] (suc k) h = refl
@@ -128,7 +129,7 @@ module _ (flags : ℕ) (n : Bytes) (h : nameCheck n ≡ Fine) where
       let k = paddedLength flags (length n) - length n in
       ap isAllNul (ap (λ (i : ℕ). drop i (n ++ zeros k)) padding-at ∙ drop-append-seam n (zeros k)) ∙ zeros-nul k
 
-  padding-fine : paddingCheck flags (padded flags n) ≡ Fine
+  pub padding-fine : paddingCheck flags (padded flags n) ≡ Fine
   unfolding paddingCheck _>>_ _⇒_
   padding-fine = rw (after-name, before-padding, h, length-padded flags n (name-fits n h), eqb-self)
 

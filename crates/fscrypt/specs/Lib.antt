@@ -2,3 +2,4 @@
 pub mod Cipher
 pub mod Names
 pub mod Encoded
+pub mod Meanings

@@ -5,6 +5,7 @@ pub mod fname;
 pub mod keysetup;
 
 use errno::Checked;
+ghost use Rattle.fscrypt.specs.Meanings.{NameMeanings};
 
 // A name by value: the first len bytes, and zeros.
 pub struct Name {
@@ -17,3 +18,8 @@ pub struct NameRead {
     pub checked: Checked,
     pub name: Name,
 }
+
+// What the definitions of names mean: which are plain, how they are padded, read and shown. The function does nothing: its `ensures` is the theorem.
+pub fn names_mean()
+    ensures { λ _. ⌜ NameMeanings ⌝ }
+{}

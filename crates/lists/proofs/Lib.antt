@@ -7,3 +7,5 @@ pub mod Slots
 pub mod Digits
 pub mod Copies
 pub mod ByteStrings
+pub mod ByteMeanings
+pub mod Searches

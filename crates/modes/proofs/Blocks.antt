@@ -74,26 +74,26 @@ state-after A s n e = blocks-after A (stateBytes s) n e
 -- ---- a block that a list ends in the middle of
 
 -- zeros past the end change nothing that is read
-padded : (l : List ℕ) (j : ℕ) → getD (l ++ replicate 16 0) j 0 ≡ getD l j 0
-padded l j =
+padded : (l : List ℕ) (k j : ℕ) → getD (l ++ replicate k 0) j 0 ≡ getD l j 0
+padded l k j =
     elim (decLt j (length l)) [
-      | yes h ↦ List·getD-append l (replicate 16 0) 0 j h
+      | yes h ↦ List·getD-append l (replicate k 0) 0 j h
       | no h ↦
           let e : length l + (j - length l) ≡ j = omega (arith, h) in
           let z : length l ≤ j = omega (arith, h) in
-          ap (λ (k : ℕ). getD (l ++ replicate 16 0) k 0) (sym e) ∙ getD-append-add l (replicate 16 0) (j - length l) 0 ∙ all-same 16 (j - length l) 0 ∙ sym (List·getD-eq-default l 0 z)
+          ap (λ (i : ℕ). getD (l ++ replicate k 0) i 0) (sym e) ∙ getD-append-add l (replicate k 0) (j - length l) 0 ∙ all-same k (j - length l) 0 ∙ sym (List·getD-eq-default l 0 z)
     ]
 
-padded-at : (l : List ℕ) (n : ℕ) → stateAt (l ++ replicate 16 0) n ≡ stateAt l n
+pub padded-at : (l : List ℕ) (k n : ℕ) → stateAt (l ++ replicate k 0) n ≡ stateAt l n
 unfolding stateAt wordAt
-padded-at l n = simp padded
+padded-at l k n = simp padded
 
 pub take-last : (l : List ℕ) (n : ℕ) → n ≤ length l → length l ≤ n + 16 → take (length l - n) (stateBytes (stateAt l n)) ≡ drop n l
 take-last l n h g =
     let P : List ℕ = l ++ replicate 16 0 in
     let k : n + 16 ≤ length P = simp length-append (omega arith) in
     let d : length (drop n l) ≡ length l - n = length-drop n l in
-    ap (λ (s : State). take (length l - n) (stateBytes s)) (sym (padded-at l n)) ∙ ap (take (length l - n)) (sym (take-state P n k))
+    ap (λ (s : State). take (length l - n) (stateBytes s)) (sym (padded-at l 16 n)) ∙ ap (take (length l - n)) (sym (take-state P n k))
     ∙ take-take (length l - n) 16 (drop n P) (omega arith) ∙ ap (take (length l - n)) (drop-append-le n l (replicate 16 0) h)
     ∙ take-at (drop n l) (replicate 16 0) (length l - n) d
 

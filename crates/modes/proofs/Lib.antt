@@ -2,6 +2,10 @@
 pub mod CtsRoundTrip
 pub mod XtsRoundTrip
 pub mod EcbBlocks
+pub mod Numbers
+pub mod Meant
+mod Alpha
+mod CtsSwapped
 mod BlockLoop
 mod Blocks
 mod RoundTrip

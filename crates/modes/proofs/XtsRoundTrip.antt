@@ -39,7 +39,7 @@ over-lt b h = omega arith
 fold-lt : (b : ℕ) → b < 256 → b / 128 * 135 < 256
 fold-lt b h = omega arith
 
-timesAlpha-bytes : (t : State) → ByteState t → ByteState (timesAlpha t)
+pub timesAlpha-bytes : (t : State) → ByteState t → ByteState (timesAlpha t)
 unfolding timesAlpha
 timesAlpha-bytes t h =
     record {

@@ -1,3 +1,2 @@
 -- The laws of names.
 mod Reading
-mod Published

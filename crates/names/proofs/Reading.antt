@@ -21,8 +21,8 @@ use Rattle.fscrypt.proofs.Padding.{nameBytes-packed}
 use Rattle.volume.specs.Volume.{keyBytes}
 use Rattle.volume.specs.Lookup.{inodeAt, keyOf, descriptorOf, keyPresent, entryNamed}
 use Rattle.volume.specs.DirectoryNames.{derivedKey, nameKey, stored, readName, shownName, isUnreadable}
-use Rattle.volume.specs.declared.EntryNumber.{EntryNumber}
-use Rattle.volume.specs.declared.InodeNumber.{InodeNumber}
+use Rattle.ids.specs.declared.EntryNumber.{EntryNumber}
+use Rattle.ids.specs.declared.InodeNumber.{InodeNumber}
 use Rattle.volume.specs.declared.Key.{Key}
 use Rattle.volume.specs.declared.Inode.{Inode}
 use Rattle.volume.specs.declared.Volume.{Volume}

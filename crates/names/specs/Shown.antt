@@ -7,7 +7,7 @@ use Rattle.fscrypt.specs.Cipher.{Cipher}
 use Rattle.fscrypt.specs.Names.{packed}
 use Rattle.fscrypt.specs.declared.NameRead.{NameRead}
 use Rattle.volume.specs.DirectoryNames.{shownName, isUnreadable}
-use Rattle.volume.specs.declared.EntryNumber.{EntryNumber}
+use Rattle.ids.specs.declared.EntryNumber.{EntryNumber}
 use Rattle.volume.specs.declared.Inode.{Inode}
 use Rattle.volume.specs.declared.Volume.{Volume}
 

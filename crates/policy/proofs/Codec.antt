@@ -1,5 +1,5 @@
 -- The codecs of policies and contexts: what is written is read back, and what was read is written back (document 01: "writing then reading, and reading then
--- writing, give back the same"); what a read that passed tells; and that a policy is the same as itself. Assumes nothing.
+-- writing, give back the same"); what a read that passed tells. Assumes nothing.
 use mathlib.Core.Path.{_≡_, refl, sym, ap, ap₂, _∙_}
 use mathlib.Core.Bool.{Bool, true, false, cond, not}
 use mathlib.Core.List.{[], _∷_, _++_}
@@ -10,13 +10,13 @@ use lib.Seq.{take-at, drop-at, take-all, take-add, drop-drop, length-take-le}
 use lib.Dec.{eqb}
 use borrow.Author.Tests.{eqb-true, not-false}
 use Rattle.lists.specs.Bytes.{Bytes}
-use Rattle.lists.proofs.Tests.{and-left, eqb-self, same-self}
+use Rattle.lists.proofs.Tests.{and-left}
 use Rattle.errno.specs.Refusals.{_⇒_, _>>_, isFine}
 use Rattle.errno.specs.declared.Errno.the-variants.{EINVAL}
 use Rattle.errno.specs.declared.Checked.{Checked}
 use Rattle.errno.specs.declared.Checked.the-variants.{Fine}
 use Rattle.errno.proofs.Chains.{passed-test}
-use Rattle.policy.specs.Policies.{isValid, samePolicy, policyBytes, contextBytes, policyAt, contextAt}
+use Rattle.policy.specs.Policies.{isValid, policyBytes, contextBytes, policyAt, contextAt}
 use Rattle.policy.specs.Policies.{policyCheck, contextCheck, readPolicy, readContext, refusedPolicy, refusedContext}
 use Rattle.policy.specs.declared.Policy.{Policy}
 use Rattle.policy.specs.declared.Context.{Context}
@@ -26,14 +26,10 @@ use Rattle.policy.proofs.Reading.{policyTaken, contextTaken, policy-fin
 
 -- ---- equal policies
 
-policy-eq : {v v′ c c′ n n′ f f′ : ℕ} {d d′ : Bytes} → v ≡ v′ → c ≡ c′ → n ≡ n′ → f ≡ f′ → d ≡ d′
+pub policy-eq : {v v′ c c′ n n′ f f′ : ℕ} {d d′ : Bytes} → v ≡ v′ → c ≡ c′ → n ≡ n′ → f ≡ f′ → d ≡ d′
     → _≡_ {A = Policy} (record { version = v; contents = c; names = n; flags = f; descriptor = d })
     (record { version = v′; contents = c′; names = n′; flags = f′; descriptor = d′ })
 policy-eq p q r s t = cc
-
-pub samePolicy-refl : (a : Policy) → samePolicy a a ≡ true
-unfolding samePolicy
-samePolicy-refl a = simp (eqb-self, same-self)
 
 -- ---- what a read checks, and what one that passed tells
 

@@ -1,12 +1,13 @@
 -- Policies and contexts, document 01, "Policy, context, derived key": their bytes, which are valid, when two are the same, and the sizes of keys.
 -- Sentences in quotation marks are document 01's, in its words. Assumes nothing.
 use Prim.Native.Nat.{ℕ}
+use mathlib.Core.Path.{_≡_}
 use mathlib.Core.Bool.{Bool, cond, not, _&&_}
 use mathlib.Core.List.{_∷_, _++_}
 use lib.ListN.{length, take, drop, getD}
 use lib.Dec.{eqb, leb}
 use Rattle.lists.specs.Bytes.{Bytes, same, zeros}
-use Rattle.errno.specs.Refusals.{_⇒_, _>>_, isFine}
+use Rattle.errno.specs.Refusals.{number, _⇒_, _>>_, isFine}
 use Rattle.errno.specs.declared.Errno.the-variants.{EINVAL}
 use Rattle.errno.specs.declared.Checked.{Checked}
 use Rattle.errno.specs.declared.Checked.the-variants.{Fine, Refused}
@@ -95,3 +96,29 @@ readPolicy b = cond (isFine (policyCheck b)) (record { checked = Fine; policy = 
 
 unfoldable pub readContext : Bytes → ContextRead
 readContext b = cond (isFine (contextCheck b)) (record { checked = Fine; context = contextAt b }) refusedContext
+
+-- ---- what a read answers, in document 01's terms: the value, or the refusal's number alone
+
+pub data Answer (A : Type 0) : Type 0 where
+  taken : (value : A) → Answer A
+  refused : (number : ℕ) → Answer A
+
+-- of a check, and the value where it is passed
+abbrev pub answered : {A : Type 0} → Checked → A → Answer A
+answered Fine value = taken value
+answered (Refused e) value = refused (number e)
+
+unfoldable pub policyAnswer : Bytes → Answer Policy
+policyAnswer b = answered (policyCheck b) (policyAt (getD b 0 0) b)
+
+unfoldable pub contextAnswer : Bytes → Answer Context
+contextAnswer b = answered (contextCheck b) (contextAt b)
+
+-- what the functions that read give back: a record of the check and the value, zeros where it is refused, that stands for this answer
+pub record ReadsPolicy (b : Bytes) (r : PolicyRead) : Type 0 where
+  pub read : r ≡ readPolicy b
+  pub answer : answered (r .checked) (r .policy) ≡ policyAnswer b
+
+pub record ReadsContext (b : Bytes) (r : ContextRead) : Type 0 where
+  pub read : r ≡ readContext b
+  pub answer : answered (r .checked) (r .context) ≡ contextAnswer b

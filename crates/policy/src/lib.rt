@@ -6,8 +6,9 @@ use errno::Errno;
 use lists::zeros;
 ghost use mathlib.Core.Path.{_≡_};
 ghost use Prim.Native.Nat.{_≤_};
-ghost use Rattle.policy.specs.Policies.{isPair, isMasterKeySize, nameKeySize, isValid, samePolicy, noPolicy, noContext, readPolicy, readContext, refusedPolicy, refusedContext, policyBytes, contextBytes};
+ghost use Rattle.policy.specs.Policies.{isPair, isMasterKeySize, nameKeySize, isValid, samePolicy, noPolicy, noContext, ReadsPolicy, ReadsContext, refusedPolicy, refusedContext, policyBytes, contextBytes};
 ghost use Rattle.policy.specs.RoundTrips.{RoundTrips};
+ghost use Rattle.policy.specs.Meanings.{PolicyMeanings};
 
 // A policy: what a directory's files are encrypted with.
 pub struct Policy {
@@ -116,7 +117,7 @@ pub fn no_context() -> Context
 
 // The policy in the 12 bytes of a policy, or the refusal of any other bytes.
 pub fn read_policy(bytes: &[u8]) -> PolicyRead
-    ensures { λ r. ⌜ r ≡ readPolicy (now (bytes .entry)) ⌝ }
+    ensures { λ r. ⌜ ReadsPolicy (now (bytes .entry)) r ⌝ }
 {
     if bytes.len() != 12 {
         return refused_policy();
@@ -143,7 +144,7 @@ fn refused_policy() -> PolicyRead
 
 // The context in the 28 bytes of a context, or the refusal of any other bytes.
 pub fn read_context(bytes: &[u8]) -> ContextRead
-    ensures { λ r. ⌜ r ≡ readContext (now (bytes .entry)) ⌝ }
+    ensures { λ r. ⌜ ReadsContext (now (bytes .entry)) r ⌝ }
 {
     if bytes.len() != 28 {
         return refused_context();
@@ -200,4 +201,10 @@ pub fn context_bytes(c: Context) -> [u8; 28]
 // What was written is read back, and what was read is written back, of contexts and of policies. The function does nothing: its `ensures` is the theorem.
 pub fn bytes_round_trip()
     ensures { λ _. ⌜ RoundTrips ⌝ }
+{}
+
+// What the tests of policies mean, in plain predicates: two policies are the same exactly where they are equal; which are valid; which bytes are read, as what, and
+// which refused. The function does nothing: its `ensures` is the theorem.
+pub fn tests_mean()
+    ensures { λ _. ⌜ PolicyMeanings ⌝ }
 {}
