@@ -1,15 +1,16 @@
 // What holds of every list of requests, as contracts: each function does nothing, and its `ensures` is the theorem. No premise on the ciphers is left.
-use volume::EntryNumber;
-use volume::InodeNumber;
+use ids::EntryNumber;
+use ids::InodeNumber;
 ghost use Rattle.lists.specs.Bytes.{ByteList};
 ghost use Rattle.fscrypt.specs.Cipher.{fscrypt};
 ghost use Rattle.volume.specs.Leaves.{Leaves};
+ghost use Rattle.volume.specs.DoneWhen.{DoneWhen};
 ghost use Rattle.volume.specs.PolicyClause.{PolicyClause};
 ghost use Rattle.volume.specs.SealedOpens.{SealedOpens};
 ghost use Rattle.volume.specs.Request.{AllTyped, thirteen};
 ghost use Rattle.volume.specs.TwoRuns.{TwoRuns};
 ghost use Rattle.volume.specs.KeyedNames.{EveryRunKeyed};
-ghost use Rattle.requests.specs.Claims.{AlwaysSound, ClimbEnds, PromiseKept};
+ghost use Rattle.requests.specs.Claims.{AlwaysSound, ClimbEnds, PromiseKept, TestsMean};
 
 // Demand 1: a refusal is one of document 01's table, and changes no byte of the volume nor of a lent buffer; show writes the name's bytes and no others; requests
 // that only ask leave the volume.
@@ -25,6 +26,11 @@ pub fn every_volume_is_sound()
 // The climb meets the moved directory or the root, after every request of every list: `Met::Neither`, for steps that ran out, is never met from a directory.
 pub fn the_climb_ends()
     ensures { λ _. ⌜ ClimbEnds fscrypt ⌝ }
+{}
+
+// Each test in the definitions is equal, in both directions, to a plain predicate in which no test stands; on a fresh volume, and after every request of every list.
+pub fn tests_mean_what_they_say()
+    ensures { λ _. ⌜ TestsMean fscrypt ⌝ }
 {}
 
 // Link, rename and exchange give the policy refusal exactly when an encrypted directory would gain what lacks its policy; so at no time does one stand there.
@@ -80,4 +86,9 @@ pub fn every_request_is_typed(
 // Demand 3: two lists that differ only in key bytes.
 pub fn two_runs_agree()
     ensures { λ _. ⌜ TwoRuns fscrypt ⌝ }
+{}
+
+// On every sound volume, and so on every one that requests made, each request is done exactly on its occasion, in plain predicates, and answers what it is to answer.
+pub fn each_request_is_done_exactly_when()
+    ensures { λ _. ⌜ DoneWhen fscrypt ⌝ }
 {}

@@ -23,7 +23,7 @@ use Rattle.volume.specs.Step.{withInode, childOf, withoutUnheld, effect,
 use Rattle.volume.specs.Run.{Moment, run}
 use Rattle.volume.specs.Sound.{nodeAt}
 use Rattle.volume.specs.Bytewise.{Bytewise}
-use Rattle.volume.specs.declared.InodeNumber.{InodeNumber}
+use Rattle.ids.specs.declared.InodeNumber.{InodeNumber}
 use Rattle.volume.specs.declared.Key.{Key}
 use Rattle.volume.specs.declared.Inode.{Inode}
 use Rattle.volume.specs.declared.Entry.{Entry}

@@ -19,7 +19,7 @@ use Rattle.volume.specs.Step.{childOf, withoutUnheld, withInodes, effect
 use Rattle.volume.specs.Run.{Moment, runFrom}
 use Rattle.volume.specs.Sound.{Sound, nodeAt}
 use Rattle.volume.specs.SealedOpens.{Stays}
-use Rattle.volume.specs.declared.InodeNumber.{InodeNumber}
+use Rattle.ids.specs.declared.InodeNumber.{InodeNumber}
 use Rattle.volume.specs.declared.Inode.{Inode}
 use Rattle.volume.specs.declared.Volume.{Volume}
 use Rattle.volume.proofs.Kept.{volume-has, kept-while}

@@ -1,195 +1,311 @@
--- Runs computed from the definitions, under a small cipher whose keys matter: they meet every form of answer and ten different refusals, so nothing that is
--- stated about runs is stated of nothing. Assumes nothing.
-use Prim.Native.Nat.{ℕ, _+_, _-_, _%_}
+-- Requests that are done, each in each situation that document 01 allows, with what they answer and write, computed from the definitions. They rule out wrong
+-- definitions that no general statement rules out: a request refused that should be done, a number or a byte that is not looked at. Assumes nothing.
 use mathlib.Core.Path.{_≡_, refl}
-use mathlib.Core.List.{List, [], _∷_, map}
-use lib.ListN.{length, getD, replicate}
-use Rattle.lists.specs.Bytes.{Bytes, zeros, firstAt, same, hexDigit}
-use Rattle.errno.specs.Refusals.{_⇒_, _>>_}
-use Rattle.policy.specs.Policies.{isPair, isValid, samePolicy, isMasterKeySize, nameKeySize, policyBytes, policyAt, policyCheck, readPolicy}
-use Rattle.fscrypt.specs.Cipher.{Cipher}
-use Rattle.fscrypt.specs.Names.{isDotName, isBadName, nameCheck, rounded, paddedLength, padded, encrypted, beforeNul, isAllNul, paddingCheck, readPadded}
-use Rattle.fscrypt.specs.Encoded.{letter, letters, encoded}
-use Rattle.volume.specs.Volume.{fresh, noKey}
-use Rattle.volume.specs.Request.{Request, addKey, removeKey, setPolicy, getPolicy, create, link, rename, exchange, remove, find, show, seal, unseal, Answer, refused, done, created, at, policyIs, shown}
-use Rattle.volume.specs.Lookup.{entryAt, keySlotOf, freeKeySlot, keyOf, keyPresent, lacksKey, freeInode, bearsNonce, nonceHolder, freeEntry, entryNamed, firstChild, firstLink, parentOf, climbFrom, isUnderItself}
-use Rattle.volume.specs.DirectoryNames.{derivedKey, nameKey, stored, readName, shownName, isUnreadable, formIn}
-use Rattle.volume.specs.Checks.{directoryCheck, isPolicyRefused, isBadKind, isBadKeyLength, isNonceNeeded, nonceCheck, addKeyCheck, removeKeyCheck, setPolicyCheck, getPolicyCheck, removeCheck, exchangeCheck, blockCheck, createCheck, linkCheck, renameCheck, findCheck, showCheck}
-use Rattle.volume.specs.Step.{childOf, withoutUnheld, lent, check, effect, settle, step}
-use Rattle.volume.specs.Run.{Moment, momentOf, runFrom, run}
-use Rattle.volume.specs.declared.InodeNumber.{InodeNumber}
-use Rattle.volume.specs.declared.EntryNumber.{EntryNumber}
-use Rattle.volume.specs.declared.Form.{Form}
-use Rattle.volume.specs.declared.Form.the-variants.{Plain, Decrypted, Encoded}
+use mathlib.Core.Bool.{cond}
+use mathlib.Core.List.{List, [], _∷_, _++_, map}
+use lib.ListN.{getD, replicate}
+use Rattle.lists.specs.Bytes.{Bytes, zeros}
+use Rattle.policy.specs.Policies.{policyBytes}
+use Rattle.volume.specs.Volume.{fresh, noKey, noInode, noEntry}
+use Rattle.volume.specs.Request.{Request, addKey, removeKey, setPolicy, getPolicy, create, link, rename, exchange, remove, find, show, seal, unseal, refused, done, created, at, policyIs, Plain, Decrypted, Encoded}
+use Rattle.volume.specs.Run.{Moment}
+use Rattle.volume.specs.declared.Key.{Key}
+use Rattle.volume.specs.declared.Inode.{Inode}
+use Rattle.volume.specs.declared.Entry.{Entry}
+use Rattle.volume.specs.declared.Volume.{Volume}
+use Rattle.volume.proofs.Computing.{counted, descriptor, nonce, key, policy, blank, block, inode, entry, seen, Occasion, _answers_, _leaving_, expected, computed, ran}
 
--- each byte moved on by t
-unfoldable pub moved : ℕ → Bytes → Bytes
-moved t x = map (λ (b : ℕ). (b + t) % 256) x
+-- ---- creating, linking, moving and removing
 
--- and back
-unfoldable pub back : ℕ → Bytes → Bytes
-back t x = moved (256 - t % 256) x
-
--- how far a key's length is from 32
-abbrev off : ℕ → ℕ
-off n = (n - 32) + (32 - n)
-
--- a derived key is moved by the nonce's first byte, a name by the first byte of a key of 32 bytes, and by more under one of another length, and a block by the first
--- and the last byte of a key of 64 and by the block's number
-unfoldable pub small : Cipher
-small =
-    record {
-      derive = λ k x. moved (getD x 0 0) k;
-      encryptName = λ k t. moved (getD k 0 0 + off (length k)) t;
-      decryptName = λ k t. back (getD k 0 0 + off (length k)) t;
-      seal = λ k n b. moved (getD k 0 0 + getD k 63 0 + n) b;
-      unseal = λ k n b. back (getD k 0 0 + getD k 63 0 + n) b;
-    }
-
-unfoldable pub inode : ℕ → InodeNumber
-inode n = record { 0 = n }
-
-unfoldable pub entry : ℕ → EntryNumber
-entry n = record { 0 = n }
-
-unfoldable pub seen : ℕ → ℕ → ℕ → Form → ℕ → Answer
-seen p i kind form n = shown (record { parent = inode p; inode = inode i; kind = kind; form = form; len = n })
-
-unfoldable pub nonce : ℕ → Bytes
-nonce n = n ∷ zeros 15
-
-unfoldable pub descriptor : Bytes
-descriptor = 7 ∷ zeros 7
-
-unfoldable pub policy : Bytes
-policy = 0 ∷ 1 ∷ 4 ∷ 0 ∷ descriptor
-
-requests : List Request
-requests =
-    addKey descriptor (9 ∷ zeros 63)
-    ∷ addKey descriptor (9 ∷ zeros 63)
-    ∷ addKey (zeros 8) (zeros 5)
-    ∷ create (inode 0) 1 (100 ∷ []) (nonce 0)
-    ∷ setPolicy (inode 1) policy (nonce 1)
-    ∷ setPolicy (inode 0) policy (nonce 2)
-    ∷ create (inode 1) 2 (97 ∷ []) (nonce 2)
-    ∷ create (inode 1) 2 (97 ∷ []) (nonce 3)
-    ∷ create (inode 1) 2 (98 ∷ []) (nonce 2)
-    ∷ create (inode 0) 2 (112 ∷ []) (nonce 0)
-    ∷ link (inode 3) (inode 1) (113 ∷ [])
-    ∷ link (inode 2) (inode 0) (108 ∷ [])
-    ∷ getPolicy (inode 2)
-    ∷ getPolicy (inode 3)
-    ∷ show (entry 1) (zeros 255)
-    ∷ show (entry 1) (zeros 10)
-    ∷ create (inode 1) 1 (115 ∷ []) (nonce 4)
-    ∷ create (inode 4) 2 (120 ∷ []) (nonce 5)
-    ∷ rename (entry 0) (inode 4) (122 ∷ [])
-    ∷ rename (entry 5) (inode 1) (121 ∷ [])
-    ∷ show (entry 5) (zeros 255)
-    ∷ exchange (entry 1) (entry 5)
-    ∷ remove (entry 0)
-    ∷ find (inode 1) (97 ∷ [])
-    ∷ find (inode 1) (122 ∷ [])
-    ∷ create (inode 3) 2 (97 ∷ []) (nonce 6)
-    ∷ seal (inode 2) 0 (zeros 16)
-    ∷ removeKey descriptor
-    ∷ show (entry 1) (zeros 255)
-    ∷ show (entry 2) (zeros 255)
-    ∷ find (inode 1) (97 ∷ [])
-    ∷ remove (entry 3)
-    ∷ remove (entry 3)
+moves : List Occasion
+moves =
+    -- plain directories 1 and 2, and encrypted ones 3 and 4 of one policy
+    addKey (descriptor 8) (key 9) answers done leaving (9 ∷ 130 ∷ [])
+    ∷ create (inode 0) 1 (112 ∷ []) (nonce 0) answers created (inode 1) (entry 0)
+    ∷ create (inode 0) 1 (113 ∷ []) (nonce 0) answers created (inode 2) (entry 1)
+    ∷ create (inode 0) 1 (101 ∷ []) (nonce 0) answers created (inode 3) (entry 2)
+    ∷ create (inode 0) 1 (102 ∷ []) (nonce 0) answers created (inode 4) (entry 3)
+    ∷ setPolicy (inode 3) (policy 2 8) (nonce 1) answers done
+    ∷ setPolicy (inode 4) (policy 2 8) (nonce 2) answers done
+    -- each kind in a plain directory and in an encrypted one; the special one takes no nonce
+    ∷ create (inode 1) 1 (97 ∷ []) (nonce 0) answers created (inode 5) (entry 4)
+    ∷ create (inode 1) 2 (98 ∷ []) (nonce 0) answers created (inode 6) (entry 5)
+    ∷ create (inode 1) 3 (99 ∷ []) (nonce 0) answers created (inode 7) (entry 6)
+    ∷ create (inode 1) 4 (100 ∷ []) (nonce 0) answers created (inode 8) (entry 7)
+    ∷ create (inode 3) 1 (97 ∷ []) (nonce 3) answers created (inode 9) (entry 8)
+    ∷ create (inode 3) 2 (98 ∷ []) (nonce 4) answers created (inode 10) (entry 9)
+    ∷ create (inode 3) 3 (99 ∷ []) (nonce 5) answers created (inode 11) (entry 10)
+    ∷ create (inode 3) 4 (100 ∷ []) (nonce 1) answers created (inode 12) (entry 11)
+    ∷ show (entry 4) blank answers seen 1 5 1 Plain 1 leaving (97 ∷ 77 ∷ [])
+    ∷ show (entry 5) blank answers seen 1 6 2 Plain 1 leaving (98 ∷ 77 ∷ [])
+    ∷ show (entry 6) blank answers seen 1 7 3 Plain 1 leaving (99 ∷ 77 ∷ [])
+    ∷ show (entry 7) blank answers seen 1 8 4 Plain 1 leaving (100 ∷ 77 ∷ [])
+    ∷ show (entry 8) blank answers seen 3 9 1 Decrypted 1 leaving (97 ∷ 77 ∷ [])
+    ∷ show (entry 9) blank answers seen 3 10 2 Decrypted 1 leaving (98 ∷ 77 ∷ [])
+    ∷ show (entry 10) blank answers seen 3 11 3 Decrypted 1 leaving (99 ∷ 77 ∷ [])
+    ∷ show (entry 11) blank answers seen 3 12 4 Decrypted 1 leaving (100 ∷ 77 ∷ [])
+    -- each child has the policy, but the special one
+    ∷ getPolicy (inode 9) answers policyIs (policy 2 8)
+    ∷ getPolicy (inode 10) answers policyIs (policy 2 8)
+    ∷ getPolicy (inode 11) answers policyIs (policy 2 8)
+    ∷ getPolicy (inode 12) answers refused 61
+    -- found by name, in its own directory
+    ∷ find (inode 3) (98 ∷ []) answers at (entry 9)
+    ∷ find (inode 1) (98 ∷ []) answers at (entry 5)
+    ∷ find (inode 4) (98 ∷ []) answers refused 2
+    ∷ find (inode 3) (120 ∷ []) answers refused 2
+    -- within a directory
+    ∷ rename (entry 9) (inode 3) (110 ∷ []) answers done
+    ∷ show (entry 9) blank answers seen 3 10 2 Decrypted 1 leaving (110 ∷ 77 ∷ [])
+    ∷ find (inode 3) (98 ∷ []) answers refused 2
+    ∷ find (inode 3) (110 ∷ []) answers at (entry 9)
+    -- a directory from one directory to another: plain; encrypted; to the root, where the name is plain, and back
+    ∷ rename (entry 4) (inode 2) (120 ∷ []) answers done
+    ∷ show (entry 4) blank answers seen 2 5 1 Plain 1 leaving (120 ∷ 77 ∷ [])
+    ∷ rename (entry 8) (inode 4) (120 ∷ []) answers done
+    ∷ show (entry 8) blank answers seen 4 9 1 Decrypted 1 leaving (120 ∷ 77 ∷ [])
+    ∷ rename (entry 8) (inode 0) (120 ∷ []) answers done
+    ∷ show (entry 8) blank answers seen 0 9 1 Plain 1 leaving (120 ∷ 77 ∷ [])
+    ∷ rename (entry 8) (inode 3) (120 ∷ []) answers done
+    ∷ show (entry 8) blank answers seen 3 9 1 Decrypted 1 leaving (120 ∷ 77 ∷ [])
+    -- a file out of its encrypted directory, and back
+    ∷ rename (entry 9) (inode 1) (110 ∷ []) answers done
+    ∷ show (entry 9) blank answers seen 1 10 2 Plain 1 leaving (110 ∷ 77 ∷ [])
+    ∷ rename (entry 9) (inode 3) (110 ∷ []) answers done
+    ∷ show (entry 9) blank answers seen 3 10 2 Decrypted 1 leaving (110 ∷ 77 ∷ [])
+    -- exchange: names stay. A plain file with a directory of another directory
+    ∷ exchange (entry 5) (entry 4) answers done
+    ∷ show (entry 5) blank answers seen 1 5 1 Plain 1 leaving (98 ∷ 77 ∷ [])
+    ∷ show (entry 4) blank answers seen 2 6 2 Plain 1 leaving (120 ∷ 77 ∷ [])
+    -- two directories of two directories
+    ∷ create (inode 2) 1 (111 ∷ []) (nonce 0) answers created (inode 13) (entry 12)
+    ∷ exchange (entry 5) (entry 12) answers done
+    ∷ show (entry 5) blank answers seen 1 13 1 Plain 1 leaving (98 ∷ 77 ∷ [])
+    ∷ show (entry 12) blank answers seen 2 5 1 Plain 1 leaving (111 ∷ 77 ∷ [])
+    -- two encrypted directories of one policy
+    ∷ create (inode 4) 2 (111 ∷ []) (nonce 6) answers created (inode 14) (entry 13)
+    ∷ exchange (entry 8) (entry 13) answers done
+    ∷ show (entry 8) blank answers seen 3 14 2 Decrypted 1 leaving (120 ∷ 77 ∷ [])
+    ∷ show (entry 13) blank answers seen 4 9 1 Decrypted 1 leaving (111 ∷ 77 ∷ [])
+    -- special files of a plain and an encrypted directory
+    ∷ exchange (entry 7) (entry 11) answers done
+    ∷ show (entry 7) blank answers seen 1 12 4 Plain 1 leaving (100 ∷ 77 ∷ [])
+    ∷ show (entry 11) blank answers seen 3 8 4 Decrypted 1 leaving (100 ∷ 77 ∷ [])
+    -- links: an encrypted file in a plain directory, and in another of its policy; a special one in an encrypted directory
+    ∷ link (inode 10) (inode 1) (97 ∷ []) answers at (entry 14)
+    ∷ link (inode 10) (inode 4) (97 ∷ []) answers at (entry 15)
+    ∷ link (inode 8) (inode 4) (98 ∷ []) answers at (entry 16)
+    ∷ show (entry 14) blank answers seen 1 10 2 Plain 1 leaving (97 ∷ 77 ∷ [])
+    ∷ show (entry 15) blank answers seen 4 10 2 Decrypted 1 leaving (97 ∷ 77 ∷ [])
+    ∷ show (entry 16) blank answers seen 4 8 4 Decrypted 1 leaving (98 ∷ 77 ∷ [])
+    -- a special file for an encrypted one that stood in a plain directory
+    ∷ exchange (entry 11) (entry 14) answers done
+    ∷ show (entry 11) blank answers seen 3 10 2 Decrypted 1 leaving (100 ∷ 77 ∷ [])
+    ∷ show (entry 14) blank answers seen 1 8 4 Plain 1 leaving (97 ∷ 77 ∷ [])
+    ∷ exchange (entry 14) (entry 11) answers done
+    -- an empty directory goes; a file stays while it has an entry, and goes with the last; the lowest numbers are used again
+    ∷ remove (entry 5) answers done
+    ∷ getPolicy (inode 13) answers refused 2
+    ∷ remove (entry 9) answers done
+    ∷ getPolicy (inode 10) answers policyIs (policy 2 8)
+    ∷ remove (entry 14) answers done
+    ∷ remove (entry 15) answers done
+    ∷ getPolicy (inode 10) answers refused 2
+    ∷ create (inode 2) 3 (98 ∷ []) (nonce 0) answers created (inode 10) (entry 5)
+    ∷ create (inode 3) 2 (98 ∷ []) (nonce 3) answers refused 76
     ∷ []
 
-answers : map (λ (m : Moment). m .answer) (run small requests)
-    ≡ done
-    ∷ refused 17
-    ∷ refused 22
-    ∷ created (inode 1) (entry 0)
-    ∷ done
-    ∷ refused 1
-    ∷ created (inode 2) (entry 1)
-    ∷ refused 17
-    ∷ refused 76
-    ∷ created (inode 3) (entry 2)
-    ∷ refused 1
-    ∷ at (entry 3)
-    ∷ policyIs policy
-    ∷ refused 61
-    ∷ seen 1 2 2 Decrypted 1
-    ∷ refused 34
-    ∷ created (inode 4) (entry 4)
-    ∷ created (inode 5) (entry 5)
-    ∷ refused 22
-    ∷ done
-    ∷ seen 1 5 2 Decrypted 1
-    ∷ done
-    ∷ refused 39
-    ∷ at (entry 1)
-    ∷ refused 2
-    ∷ refused 20
-    ∷ refused 22
-    ∷ done
-    ∷ seen 1 5 2 Encoded 22
-    ∷ seen 0 3 2 Plain 1
-    ∷ refused 126
-    ∷ done
-    ∷ refused 2
+-- ---- policies, and what goes without the key
+
+policies : List Occasion
+policies =
+    -- one directory for each value of the flags, before its key is there; each gives back its 12 bytes
+    create (inode 0) 1 (100 ∷ []) (nonce 0) answers created (inode 1) (entry 0)
+    ∷ create (inode 0) 1 (101 ∷ []) (nonce 0) answers created (inode 2) (entry 1)
+    ∷ create (inode 0) 1 (102 ∷ []) (nonce 0) answers created (inode 3) (entry 2)
+    ∷ create (inode 0) 1 (103 ∷ []) (nonce 0) answers created (inode 4) (entry 3)
+    ∷ setPolicy (inode 1) (policy 0 8) (nonce 1) answers done
+    ∷ setPolicy (inode 2) (policy 1 8) (nonce 2) answers done
+    ∷ setPolicy (inode 3) (policy 2 8) (nonce 3) answers done
+    ∷ setPolicy (inode 4) (policy 3 8) (nonce 4) answers done
+    ∷ getPolicy (inode 1) answers policyIs (policy 0 8)
+    ∷ getPolicy (inode 2) answers policyIs (policy 1 8)
+    ∷ getPolicy (inode 3) answers policyIs (policy 2 8)
+    ∷ getPolicy (inode 4) answers policyIs (policy 3 8)
+    -- descriptors that agree but in the last byte are two: this key is not theirs
+    ∷ addKey (descriptor 9) (key 5) answers done
+    ∷ create (inode 1) 2 (97 ∷ []) (nonce 5) answers refused 126
+    -- keys under 64 bytes are held and count as absent
+    ∷ addKey (descriptor 8) (counted 16 130) answers done
+    ∷ create (inode 1) 2 (97 ∷ []) (nonce 5) answers refused 126
+    ∷ removeKey (descriptor 8) answers done
+    ∷ addKey (descriptor 8) (counted 32 130) answers done
+    ∷ create (inode 1) 2 (97 ∷ []) (nonce 5) answers refused 126
+    ∷ removeKey (descriptor 8) answers done
+    ∷ addKey (descriptor 8) (counted 48 130) answers done
+    ∷ create (inode 1) 2 (97 ∷ []) (nonce 5) answers refused 126
+    ∷ removeKey (descriptor 8) answers done
+    -- a name of 33 bytes in each: padded to 36, 40, 48 and 64
+    ∷ addKey (descriptor 8) (key 9) answers done
+    ∷ create (inode 1) 2 (counted 33 97) (nonce 5) answers created (inode 5) (entry 4)
+    ∷ create (inode 2) 2 (counted 33 97) (nonce 6) answers created (inode 6) (entry 5)
+    ∷ create (inode 3) 2 (counted 33 97) (nonce 7) answers created (inode 7) (entry 6)
+    ∷ create (inode 4) 2 (counted 33 97) (nonce 8) answers created (inode 8) (entry 7)
+    ∷ show (entry 4) blank answers seen 1 5 2 Decrypted 33 leaving (counted 33 97 ++ 77 ∷ [])
+    ∷ show (entry 5) blank answers seen 2 6 2 Decrypted 33 leaving (counted 33 97 ++ 77 ∷ [])
+    ∷ show (entry 6) blank answers seen 3 7 2 Decrypted 33 leaving (counted 33 97 ++ 77 ∷ [])
+    ∷ show (entry 7) blank answers seen 4 8 2 Decrypted 33 leaving (counted 33 97 ++ 77 ∷ [])
+    -- the same without the key; it still answers its policy, takes it again, whatever the nonce, and gives up its entries
+    ∷ removeKey (descriptor 8) answers done
+    ∷ show (entry 4) blank answers seen 1 5 2 Encoded 48 leaving (80 ∷ 48 ∷ 66 ∷ 66 ∷ 81 ∷ [])
+    ∷ show (entry 5) blank answers seen 2 6 2 Encoded 54 leaving (86 ∷ 108 ∷ 100 ∷ 89 ∷ 87 ∷ [])
+    ∷ show (entry 6) blank answers seen 3 7 2 Encoded 64 leaving (106 ∷ 89 ∷ 54 ∷ 80 ∷ 107 ∷ [])
+    ∷ show (entry 7) blank answers seen 4 8 2 Encoded 86 leaving (122 ∷ 77 ∷ 51 ∷ 79 ∷ 122 ∷ [])
+    ∷ getPolicy (inode 5) answers policyIs (policy 0 8)
+    ∷ setPolicy (inode 1) (policy 0 8) (nonce 99) answers done
+    ∷ setPolicy (inode 1) (policy 0 9) (nonce 99) answers refused 17
+    ∷ setPolicy (inode 1) (policy 1 8) (nonce 99) answers refused 17
+    ∷ getPolicy (inode 1) answers policyIs (policy 0 8)
+    ∷ remove (entry 7) answers done
+    ∷ remove (entry 3) answers done
+    ∷ getPolicy (inode 4) answers refused 2
+    ∷ find (inode 1) (counted 33 97) answers refused 126
+    -- and once it is back, its names are as they were
+    ∷ addKey (descriptor 8) (key 9) answers done
+    ∷ find (inode 1) (counted 33 97) answers at (entry 4)
+    ∷ show (entry 4) blank answers seen 1 5 2 Decrypted 33 leaving (counted 33 97 ++ 77 ∷ [])
     ∷ []
-unfolding moved back small inode entry seen nonce descriptor policy requests runFrom momentOf step settle lent check effect fresh childOf withoutUnheld _⇒_ _>>_ zeros firstAt same isPair isValid samePolicy isMasterKeySize nameKeySize policyBytes policyAt policyCheck readPolicy isDotName isBadName nameCheck rounded paddedLength padded encrypted beforeNul isAllNul paddingCheck readPadded letter letters hexDigit encoded keySlotOf freeKeySlot keyOf keyPresent lacksKey freeInode bearsNonce nonceHolder freeEntry entryNamed firstChild firstLink parentOf climbFrom isUnderItself directoryCheck isPolicyRefused isBadKind isBadKeyLength isNonceNeeded nonceCheck derivedKey nameKey stored readName shownName isUnreadable formIn addKeyCheck removeKeyCheck setPolicyCheck getPolicyCheck removeCheck exchangeCheck blockCheck createCheck linkCheck renameCheck findCheck showCheck
+
+-- ---- blocks, and the lent buffers
+
+blocks : List Occasion
+blocks =
+    -- two files in an encrypted directory: each block is sealed under its own file's key and its own number
+    addKey (descriptor 8) (key 9) answers done
+    ∷ create (inode 0) 1 (100 ∷ []) (nonce 0) answers created (inode 1) (entry 0)
+    ∷ setPolicy (inode 1) (policy 1 8) (nonce 1) answers done
+    ∷ create (inode 1) 2 (97 ∷ []) (nonce 2) answers created (inode 2) (entry 1)
+    ∷ create (inode 1) 2 (98 ∷ []) (nonce 3) answers created (inode 3) (entry 2)
+    ∷ seal (inode 2) 0 (block 1) answers done leaving (block 229)
+    ∷ seal (inode 2) 255 (block 1) answers done leaving (block 233)
+    ∷ seal (inode 2) 256 (block 1) answers done leaving (block 234)
+    ∷ seal (inode 2) 65536 (block 1) answers done leaving (block 254)
+    ∷ seal (inode 2) 4294967296 (block 1) answers done leaving (block 96)
+    ∷ seal (inode 2) 9223372036854775808 (block 1) answers done leaving (block 133)
+    ∷ seal (inode 2) 18446744073709551615 (block 1) answers done leaving (block 41)
+    ∷ seal (inode 3) 0 (block 1) answers done leaving (block 146)
+    ∷ unseal (inode 2) 0 (block 229) answers done leaving (block 1)
+    ∷ unseal (inode 2) 18446744073709551615 (block 41) answers done leaving (block 1)
+    -- another master key of the same file is another key
+    ∷ removeKey (descriptor 8) answers done
+    ∷ addKey (descriptor 8) (key 10) answers done
+    ∷ seal (inode 2) 0 (block 1) answers done leaving (block 230)
+    -- what was refused leaves the buffer, and show what stands past the name
+    ∷ seal (inode 1) 0 (block 77) answers refused 22 leaving (77 ∷ 77 ∷ [])
+    ∷ unseal (inode 50) 0 (block 77) answers refused 2 leaving (77 ∷ 77 ∷ [])
+    ∷ seal (inode 2) 0 (replicate 4095 77) answers refused 22 leaving (77 ∷ 77 ∷ [])
+    ∷ seal (inode 2) 0 (replicate 4097 77) answers refused 22 leaving (77 ∷ 77 ∷ [])
+    ∷ show (entry 50) blank answers refused 2 leaving (77 ∷ 77 ∷ [])
+    ∷ show (entry 0) (replicate 254 77) answers refused 34 leaving (77 ∷ 77 ∷ [])
+    ∷ show (entry 0) (replicate 256 77) answers seen 0 1 1 Plain 1 leaving (100 ∷ 77 ∷ [])
+    ∷ addKey (descriptor 9) (replicate 40 77) answers refused 22 leaving (77 ∷ 77 ∷ [])
+    ∷ []
+
+-- ---- names
+
+-- a name for each letter of the alphabet in turn, once it is encrypted
+alphabet : Bytes
+alphabet =
+    34 ∷ 50 ∷ 165 ∷ 50 ∷ 115 ∷ 169 ∷ 66 ∷ 180 ∷ 173 ∷ 82 ∷ 245 ∷ 177 ∷ 99 ∷ 54 ∷ 181 ∷ 115 ∷ 119 ∷ 185 ∷ 131 ∷ 184 ∷ 189 ∷ 147 ∷ 249 ∷ 193
+    ∷ 164 ∷ 58 ∷ 197 ∷ 180 ∷ 123 ∷ 201 ∷ 196 ∷ 188 ∷ 205 ∷ 212 ∷ 253 ∷ 209 ∷ 229 ∷ 62 ∷ 213 ∷ 245 ∷ 127 ∷ 217 ∷ 5 ∷ 192 ∷ 221 ∷ 21 ∷ 1 ∷ 225
+    ∷ []
+
+names : List Occasion
+names =
+    -- the longest name, one with dots and one of odd bytes, in a plain and in an encrypted directory
+    addKey (descriptor 8) (key 9) answers done
+    ∷ create (inode 0) 1 (100 ∷ []) (nonce 0) answers created (inode 1) (entry 0)
+    ∷ setPolicy (inode 1) (policy 0 8) (nonce 1) answers done
+    ∷ create (inode 0) 2 (replicate 255 34) (nonce 0) answers created (inode 2) (entry 1)
+    ∷ create (inode 0) 2 (46 ∷ 46 ∷ 97 ∷ []) (nonce 0) answers created (inode 3) (entry 2)
+    ∷ create (inode 0) 2 (1 ∷ 46 ∷ 48 ∷ 92 ∷ 255 ∷ []) (nonce 0) answers created (inode 4) (entry 3)
+    ∷ create (inode 1) 2 (replicate 255 34) (nonce 2) answers created (inode 5) (entry 4)
+    ∷ create (inode 1) 2 (46 ∷ 46 ∷ 97 ∷ []) (nonce 3) answers created (inode 6) (entry 5)
+    ∷ create (inode 1) 2 (1 ∷ 46 ∷ 48 ∷ 92 ∷ 255 ∷ []) (nonce 4) answers created (inode 7) (entry 6)
+    ∷ show (entry 1) blank answers seen 0 2 2 Plain 255 leaving (replicate 255 34)
+    ∷ show (entry 2) blank answers seen 0 3 2 Plain 3 leaving (46 ∷ 46 ∷ 97 ∷ 77 ∷ [])
+    ∷ show (entry 3) blank answers seen 0 4 2 Plain 5 leaving (1 ∷ 46 ∷ 48 ∷ 92 ∷ 255 ∷ 77 ∷ [])
+    ∷ show (entry 4) blank answers seen 1 5 2 Decrypted 255 leaving (replicate 255 34)
+    ∷ show (entry 5) blank answers seen 1 6 2 Decrypted 3 leaving (46 ∷ 46 ∷ 97 ∷ 77 ∷ [])
+    ∷ show (entry 6) blank answers seen 1 7 2 Decrypted 5 leaving (1 ∷ 46 ∷ 48 ∷ 92 ∷ 255 ∷ 77 ∷ [])
+    -- without the key: 255 bytes and 160, that are zeros once they are encrypted, 20, and the 48 that are every letter in turn
+    ∷ create (inode 1) 2 (replicate 160 34) (nonce 5) answers created (inode 8) (entry 7)
+    ∷ create (inode 1) 3 (replicate 17 34) (nonce 6) answers created (inode 9) (entry 8)
+    ∷ create (inode 1) 1 alphabet (nonce 7) answers created (inode 10) (entry 9)
+    ∷ removeKey (descriptor 8) answers done
+    ∷ show (entry 4) blank answers seen 1 5 2 Encoded 217 leaving (95 ∷ replicate 214 65 ++ 48 ∷ 52 ∷ 77 ∷ [])
+    ∷ show (entry 7) blank answers seen 1 8 2 Encoded 214 leaving (replicate 214 65 ++ 77 ∷ [])
+    ∷ show (entry 8) blank answers seen 1 9 3 Encoded 27 leaving (replicate 22 65 ++ 68 ∷ 101 ∷ 51 ∷ 116 ∷ 52 ∷ 77 ∷ [])
+    ∷ show (entry 9) blank answers seen 1 10 1 Encoded 64 leaving (counted 26 65 ++ counted 26 97 ++ counted 10 48 ++ 43 ∷ 44 ∷ 77 ∷ [])
+    ∷ []
+
+runs : List (List Occasion)
+runs = moves ∷ policies ∷ blocks ∷ names ∷ []
+
+answers : map computed runs ≡ map expected runs
+unfolding ran moves policies blocks alphabet names runs
 answers = refl
 
--- ---- what is written
+-- ---- records: "A freed record is all zeros, and so are a record's unused bytes."
 
-writes : List Request
-writes =
-    addKey descriptor (9 ∷ zeros 63)
-    ∷ create (inode 0) 1 (100 ∷ []) (nonce 0)
-    ∷ setPolicy (inode 1) policy (nonce 1)
-    ∷ create (inode 1) 2 (97 ∷ []) (nonce 2)
-    ∷ seal (inode 2) 0 (replicate 4096 1)
-    ∷ seal (inode 2) 5 (replicate 4096 1)
-    ∷ unseal (inode 2) 5 (replicate 4096 99)
-    ∷ seal (inode 1) 0 (replicate 4096 77)
-    ∷ unseal (inode 9) 0 (replicate 4096 77)
-    ∷ show (entry 1) (replicate 255 77)
-    ∷ show (entry 9) (replicate 255 77)
-    ∷ show (entry 1) (replicate 254 77)
+keyRecord : Key → Bytes
+keyRecord k = k .len ∷ k .descriptor ++ k .bytes
+
+inodeRecord : Inode → Bytes
+inodeRecord i = i .kind ∷ cond (i .encrypted) 1 0 ∷ policyBytes (i .context .policy) ++ i .context .nonce
+
+entryRecord : Entry → Bytes
+entryRecord e = e .len ∷ e .parent .0 ∷ e .inode .0 ∷ e .name
+
+lastOf : List Moment → Volume
+lastOf [] = fresh
+lastOf (m ∷ []) = m .volume
+lastOf (m ∷ n ∷ ms) = lastOf (n ∷ ms)
+
+-- the keys 0 and 1, the inode 1 and the entry 0 after these requests
+records : List Request → List Bytes
+records rs =
+    let v = lastOf (ran rs) in
+    keyRecord (getD (v .keys) 0 noKey)
+    ∷ keyRecord (getD (v .keys) 1 noKey)
+    ∷ inodeRecord (getD (v .inodes) 1 noInode)
+    ∷ entryRecord (getD (v .entries) 0 noEntry)
     ∷ []
 
--- the answer, the buffer's first two bytes and the first byte of entry 1's stored name
-written : Moment → Answer × ℕ × ℕ × ℕ
-written m = (m .answer, getD (m .buffer) 0 0, getD (m .buffer) 1 0, getD (entryAt (m .volume) (entry 1) .name) 0 0)
-
--- The name is moved by 9 and its directory's nonce, the block by 9, twice the nonce of its own inode and the block's number: a key that was not derived, or the
--- other one's, would show. What was refused leaves the buffer, and show leaves what stands past the name.
-bytes : map written (run small writes)
-    ≡ (done, 9, 0, 0)
-    ∷ (created (inode 1) (entry 0), 0, 0, 0)
-    ∷ (done, 0, 0, 0)
-    ∷ (created (inode 2) (entry 1), 0, 0, 107)
-    ∷ (done, 14, 14, 107)
-    ∷ (done, 19, 19, 107)
-    ∷ (done, 81, 81, 107)
-    ∷ (refused 22, 77, 77, 107)
-    ∷ (refused 2, 77, 77, 107)
-    ∷ (seen 1 2 2 Decrypted 1, 97, 77, 107)
-    ∷ (refused 2, 77, 77, 107)
-    ∷ (refused 34, 77, 77, 107)
+-- a key of 32 bytes and one of 64, and an encrypted directory in the root
+standing : List Request
+standing =
+    addKey (descriptor 8) (counted 32 130)
+    ∷ addKey (zeros 8) (key 9)
+    ∷ create (inode 0) 1 (100 ∷ 101 ∷ []) (nonce 0)
+    ∷ setPolicy (inode 1) (policy 3 9) (nonce 1)
     ∷ []
-unfolding moved back small inode entry seen nonce descriptor policy writes written runFrom momentOf step settle lent check effect fresh childOf withoutUnheld _⇒_ _>>_ zeros firstAt same isPair isValid samePolicy isMasterKeySize nameKeySize policyBytes policyAt policyCheck readPolicy isDotName isBadName nameCheck rounded paddedLength padded encrypted beforeNul isAllNul paddingCheck readPadded letter letters hexDigit encoded keySlotOf freeKeySlot keyOf keyPresent lacksKey freeInode bearsNonce nonceHolder freeEntry entryNamed firstChild firstLink parentOf climbFrom isUnderItself directoryCheck isPolicyRefused isBadKind isBadKeyLength isNonceNeeded nonceCheck derivedKey nameKey stored readName shownName isUnreadable formIn addKeyCheck removeKeyCheck setPolicyCheck getPolicyCheck removeCheck exchangeCheck blockCheck createCheck linkCheck renameCheck findCheck showCheck
-bytes = refl
 
--- ---- where keys stand
+-- they go, but one key; a new key takes the lowest free slot
+gone : List Request
+gone = standing ++ remove (entry 0) ∷ removeKey (descriptor 8) ∷ []
 
-keys : List Request
-keys = addKey (7 ∷ zeros 7) (zeros 16) ∷ addKey (8 ∷ zeros 7) (zeros 16) ∷ removeKey (7 ∷ zeros 7) ∷ addKey (9 ∷ zeros 7) (zeros 16) ∷ []
+again : List Request
+again = gone ++ addKey (descriptor 7) (counted 16 130) ∷ removeKey (zeros 8) ∷ []
 
--- the first bytes of the descriptors in the slots 0 and 1
-slots : Moment → ℕ × ℕ
-slots m = (getD (getD (m .volume .keys) 0 noKey .descriptor) 0 0, getD (getD (m .volume .keys) 1 noKey .descriptor) 0 0)
-
--- "A new key .. takes the lowest free slot"
-lowest : map slots (run small keys) ≡ (7, 0) ∷ (7, 8) ∷ (0, 8) ∷ (9, 8) ∷ []
-unfolding moved back small inode entry seen nonce descriptor policy keys slots runFrom momentOf step settle lent check effect fresh childOf withoutUnheld _⇒_ _>>_ zeros firstAt same isPair isValid samePolicy isMasterKeySize nameKeySize policyBytes policyAt policyCheck readPolicy isDotName isBadName nameCheck rounded paddedLength padded encrypted beforeNul isAllNul paddingCheck readPadded letter letters hexDigit encoded keySlotOf freeKeySlot keyOf keyPresent lacksKey freeInode bearsNonce nonceHolder freeEntry entryNamed firstChild firstLink parentOf climbFrom isUnderItself directoryCheck isPolicyRefused isBadKind isBadKeyLength isNonceNeeded nonceCheck derivedKey nameKey stored readName shownName isUnreadable formIn addKeyCheck removeKeyCheck setPolicyCheck getPolicyCheck removeCheck exchangeCheck blockCheck createCheck linkCheck renameCheck findCheck showCheck
-lowest = refl
+freed : map records (standing ∷ gone ∷ again ∷ [])
+    ≡ ((32 ∷ descriptor 8 ++ counted 32 130 ++ replicate 32 0)
+    ∷ (64 ∷ replicate 8 0 ++ key 9)
+    ∷ (1 ∷ 1 ∷ policy 3 9 ++ nonce 1)
+    ∷ (2 ∷ 0 ∷ 1 ∷ 100 ∷ 101 ∷ replicate 253 0)
+    ∷ [])
+    ∷ (replicate 73 0 ∷ (64 ∷ replicate 8 0 ++ key 9) ∷ replicate 30 0 ∷ replicate 258 0 ∷ [])
+    ∷ ((16 ∷ descriptor 7 ++ counted 16 130 ++ replicate 48 0) ∷ replicate 73 0 ∷ replicate 30 0 ∷ replicate 258 0 ∷ [])
+    ∷ []
+unfolding ran keyRecord inodeRecord entryRecord lastOf records standing gone again
+freed = refl

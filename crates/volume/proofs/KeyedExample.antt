@@ -1,87 +1,65 @@
 -- Two keys under one descriptor, computed from the definitions: a name is garbled or EUCLEAN under the other key, and shown as it was given once its own is back. So
--- neither what is claimed of the name's own key nor what is claimed of a wrong one is claimed of nothing. Assumes nothing.
+-- neither what is claimed of the name's own key nor what is claimed of a wrong one is claimed of nothing; and each of the three reasons of EUCLEAN is met alone.
+-- Assumes nothing.
 use Prim.Native.Nat.{ℕ}
 use mathlib.Core.Path.{_≡_, refl}
 use mathlib.Core.List.{List, [], _∷_, _++_, map}
 use mathlib.Core.Option.{Option, some}
-use lib.ListN.{getD, take}
-use Rattle.lists.specs.Bytes.{Bytes, zeros, firstAt, same, hexDigit}
-use Rattle.errno.specs.Refusals.{_⇒_, _>>_}
-use Rattle.policy.specs.Policies.{isPair, isValid, samePolicy, isMasterKeySize, nameKeySize, policyBytes, policyAt, policyCheck, readPolicy}
-use Rattle.fscrypt.specs.Names.{isDotName, isBadName, nameCheck, rounded, paddedLength, padded, encrypted, beforeNul, isAllNul, paddingCheck, readPadded}
-use Rattle.fscrypt.specs.Encoded.{letter, letters, encoded}
-use Rattle.volume.specs.Volume.{fresh}
-use Rattle.volume.specs.Request.{Request, addKey, removeKey, setPolicy, create, rename, show, Answer, refused, done, created}
-use Rattle.volume.specs.Lookup.{keySlotOf, freeKeySlot, keyOf, keyPresent, lacksKey, freeInode, bearsNonce, nonceHolder, freeEntry, entryNamed, firstChild, firstLink, parentOf, climbFrom, isUnderItself}
-use Rattle.volume.specs.DirectoryNames.{derivedKey, nameKey, stored, readName, shownName, isUnreadable, formIn}
-use Rattle.volume.specs.Checks.{directoryCheck, isPolicyRefused, isBadKind, isBadKeyLength, isNonceNeeded, nonceCheck, addKeyCheck, removeKeyCheck, setPolicyCheck, createCheck, renameCheck, showCheck}
-use Rattle.volume.specs.Step.{childOf, lent, check, effect, settle, step}
-use Rattle.volume.specs.Run.{Moment, momentOf, runFrom, run}
+use lib.ListN.{take, replicate}
+use Rattle.lists.specs.Bytes.{Bytes}
+use Rattle.volume.specs.Request.{addKey, removeKey, setPolicy, create, rename, show, refused, done, created, Decrypted, Encoded}
 use Rattle.volume.specs.GivenNames.{naming, named, namedBy, namesFrom, given}
-use Rattle.volume.specs.KeyedNames.{keyFor, keysFrom, namedUnder}
-use Rattle.volume.specs.declared.Form.the-variants.{Decrypted, Encoded}
-use Rattle.volume.proofs.Example.{moved, back, small, inode, entry, seen, nonce, descriptor, policy}
+use Rattle.volume.specs.KeyedNames.{keysFrom, namedUnder}
+use Rattle.volume.proofs.Computing.{descriptor, nonce, key, policy, blank, inode, entry, seen, Occasion, _answers_, _leaving_, requestsOf, expected, computed, ran}
 
-key : ℕ → Bytes
-key n = n ∷ zeros 63
-
--- the key is replaced
-replaced : ℕ → List Request
-replaced n = removeKey descriptor ∷ addKey descriptor (key n) ∷ []
-
-requests : List Request
-requests =
-    (addKey descriptor (key 9)
-    ∷ create (inode 0) 1 (100 ∷ []) (nonce 0)
-    ∷ setPolicy (inode 1) policy (nonce 1)
-    ∷ create (inode 1) 2 (97 ∷ []) (nonce 2)
-    ∷ show (entry 1) (zeros 255)
-    ∷ [])
-    ++ replaced 5
-    ++ (show (entry 1) (zeros 255) ∷ [])
-    ++ replaced 106
-    ++ (show (entry 1) (zeros 255) ∷ removeKey descriptor ∷ show (entry 1) (zeros 255) ∷ addKey descriptor (key 9) ∷ show (entry 1) (zeros 255) ∷ [])
-    ++ replaced 5
-    ++ (rename (entry 1) (inode 1) (98 ∷ []) ∷ show (entry 1) (zeros 255) ∷ [])
-
--- the answer, the buffer's first byte, and the first byte of the key that the directory of entry 1 has
-told : Moment → Answer × ℕ × ℕ
-told m = (m .answer, getD (m .buffer) 0 0, getD (keyFor (m .volume) 1) 0 0)
-
--- 97 shows as 97 under the key 9, as 101 and fifteen more under 5, and not at all under 106; once it is renamed under 5, it shows as 98 under that
-answers : map told (run small requests)
-    ≡ (done, 9, 0)
-    ∷ (created (inode 1) (entry 0), 0, 0)
-    ∷ (done, 0, 0)
-    ∷ (created (inode 2) (entry 1), 0, 9)
-    ∷ (seen 1 2 2 Decrypted 1, 97, 9)
-    ∷ (done, 0, 0)
-    ∷ (done, 5, 5)
-    ∷ (seen 1 2 2 Decrypted 16, 101, 5)
-    ∷ (done, 0, 0)
-    ∷ (done, 106, 106)
-    ∷ (refused 117, 0, 106)
-    ∷ (done, 0, 0)
-    ∷ (seen 1 2 2 Encoded 22, 97, 0)
-    ∷ (done, 9, 9)
-    ∷ (seen 1 2 2 Decrypted 1, 97, 9)
-    ∷ (done, 0, 0)
-    ∷ (done, 5, 5)
-    ∷ (done, 0, 5)
-    ∷ (seen 1 2 2 Decrypted 1, 98, 5)
+replacing : List Occasion
+replacing =
+    -- three names under the key 9
+    addKey (descriptor 8) (key 9) answers done
+    ∷ create (inode 0) 1 (100 ∷ []) (nonce 0) answers created (inode 1) (entry 0)
+    ∷ setPolicy (inode 1) (policy 0 8) (nonce 1) answers done
+    ∷ create (inode 1) 2 (97 ∷ []) (nonce 2) answers created (inode 2) (entry 1)
+    ∷ create (inode 1) 2 (97 ∷ 98 ∷ replicate 14 97) (nonce 3) answers created (inode 3) (entry 2)
+    ∷ create (inode 1) 2 (replicate 3 97 ++ replicate 29 98) (nonce 4) answers created (inode 4) (entry 3)
+    ∷ show (entry 1) blank answers seen 1 2 2 Decrypted 1 leaving (97 ∷ 77 ∷ [])
+    ∷ show (entry 2) blank answers seen 1 3 2 Decrypted 16 leaving (97 ∷ 98 ∷ replicate 14 97 ++ 77 ∷ [])
+    ∷ show (entry 3) blank answers seen 1 4 2 Decrypted 32 leaving (97 ∷ 97 ∷ 97 ∷ replicate 29 98 ++ 77 ∷ [])
+    -- under the key 5 the first is garbled: its padding reads as more of it
+    ∷ removeKey (descriptor 8) answers done
+    ∷ addKey (descriptor 8) (key 5) answers done
+    ∷ show (entry 1) blank answers seen 1 2 2 Decrypted 16 leaving (101 ∷ replicate 15 4 ++ 77 ∷ [])
+    -- under 54 it would have slashes in it
+    ∷ removeKey (descriptor 8) answers done
+    ∷ addKey (descriptor 8) (key 54) answers done
+    ∷ show (entry 1) blank answers refused 117
+    -- under 102 the second would go on after a NUL, and the third, of 3 bytes then, would have been padded to 16 and not 32
+    ∷ removeKey (descriptor 8) answers done
+    ∷ addKey (descriptor 8) (key 102) answers done
+    ∷ show (entry 2) blank answers refused 117
+    ∷ show (entry 3) blank answers refused 117
+    -- without a key, and with their own again
+    ∷ removeKey (descriptor 8) answers done
+    ∷ show (entry 1) blank answers seen 1 2 2 Encoded 22 leaving (80 ∷ 57 ∷ 55 ∷ 101 ∷ 51 ∷ [])
+    ∷ addKey (descriptor 8) (key 9) answers done
+    ∷ show (entry 1) blank answers seen 1 2 2 Decrypted 1 leaving (97 ∷ 77 ∷ [])
+    ∷ show (entry 2) blank answers seen 1 3 2 Decrypted 16 leaving (97 ∷ 98 ∷ replicate 14 97 ++ 77 ∷ [])
+    ∷ show (entry 3) blank answers seen 1 4 2 Decrypted 32 leaving (97 ∷ 97 ∷ 97 ∷ replicate 29 98 ++ 77 ∷ [])
+    -- renamed under another key it is that one's
+    ∷ removeKey (descriptor 8) answers done
+    ∷ addKey (descriptor 8) (key 5) answers done
+    ∷ rename (entry 1) (inode 1) (98 ∷ []) answers done
+    ∷ show (entry 1) blank answers seen 1 2 2 Decrypted 1 leaving (98 ∷ 77 ∷ [])
     ∷ []
-unfolding moved back small inode entry seen nonce descriptor policy key replaced requests told runFrom momentOf step settle lent check effect fresh childOf _⇒_ _>>_ zeros firstAt same isPair isValid samePolicy isMasterKeySize nameKeySize policyBytes policyAt policyCheck readPolicy isDotName isBadName nameCheck rounded paddedLength padded encrypted beforeNul isAllNul paddingCheck readPadded letter letters hexDigit encoded keySlotOf freeKeySlot keyOf keyPresent lacksKey freeInode bearsNonce nonceHolder freeEntry entryNamed firstChild firstLink parentOf climbFrom isUnderItself directoryCheck isPolicyRefused isBadKind isBadKeyLength isNonceNeeded nonceCheck derivedKey nameKey stored readName shownName isUnreadable formIn addKeyCheck removeKeyCheck setPolicyCheck createCheck renameCheck showCheck
+
+answers : computed replacing ≡ expected replacing
+unfolding ran replacing
 answers = refl
 
--- what entry 1 was named, and under which key
-noted : List Request → Option Bytes × Bytes
-noted rs = (given (run small rs) 1, namedUnder (run small rs) 1)
+-- what entry 1 was named by so many of them, and under which key
+noted : ℕ → Option Bytes × Bytes
+noted n = let ms = ran (requestsOf (take n replacing)) in (given ms 1, namedUnder ms 1)
 
--- the other keys that came and went count for nothing, and the rename's counts
-before-rename : noted (take 16 requests) ≡ (some (97 ∷ []), key 9)
-unfolding moved back small inode entry seen nonce descriptor policy key replaced requests noted namesFrom keysFrom namedBy naming named runFrom momentOf step settle lent check effect fresh childOf _⇒_ _>>_ zeros firstAt same isPair isValid samePolicy isMasterKeySize nameKeySize policyBytes policyAt policyCheck readPolicy isDotName isBadName nameCheck rounded paddedLength padded encrypted beforeNul isAllNul paddingCheck readPadded letter letters hexDigit encoded keySlotOf freeKeySlot keyOf keyPresent lacksKey freeInode bearsNonce nonceHolder freeEntry entryNamed firstChild firstLink parentOf climbFrom isUnderItself directoryCheck isPolicyRefused isBadKind isBadKeyLength isNonceNeeded nonceCheck derivedKey nameKey stored readName shownName isUnreadable formIn addKeyCheck removeKeyCheck setPolicyCheck createCheck renameCheck showCheck
-before-rename = refl
-
-after-rename : noted requests ≡ (some (98 ∷ []), key 5)
-unfolding moved back small inode entry seen nonce descriptor policy key replaced requests noted namesFrom keysFrom namedBy naming named runFrom momentOf step settle lent check effect fresh childOf _⇒_ _>>_ zeros firstAt same isPair isValid samePolicy isMasterKeySize nameKeySize policyBytes policyAt policyCheck readPolicy isDotName isBadName nameCheck rounded paddedLength padded encrypted beforeNul isAllNul paddingCheck readPadded letter letters hexDigit encoded keySlotOf freeKeySlot keyOf keyPresent lacksKey freeInode bearsNonce nonceHolder freeEntry entryNamed firstChild firstLink parentOf climbFrom isUnderItself directoryCheck isPolicyRefused isBadKind isBadKeyLength isNonceNeeded nonceCheck derivedKey nameKey stored readName shownName isUnreadable formIn addKeyCheck removeKeyCheck setPolicyCheck createCheck renameCheck showCheck
-after-rename = refl
+-- the other keys that came and went before the rename count for nothing, and the rename's counts
+named-under : map noted (27 ∷ 29 ∷ []) ≡ (some (97 ∷ []), key 9) ∷ (some (98 ∷ []), key 5) ∷ []
+unfolding ran replacing noted namesFrom keysFrom namedBy naming named
+named-under = refl

@@ -20,7 +20,7 @@ use Rattle.fscrypt.specs.Cipher.{Cipher, Lawful, fscrypt}
 use Rattle.fscrypt.specs.Names.{nameCheck, encrypted}
 use Rattle.fscrypt.proofs.Lawfulness.{fscrypt-lawful}
 use Rattle.volume.specs.Volume.{nameOf, fresh}
-use Rattle.volume.specs.Request.{Request, show, refused, shown, outcome, Typed, AllTyped}
+use Rattle.volume.specs.Request.{Request, show, refused, shown, outcome, Typed, AllTyped, ShownEntry}
 use Rattle.volume.specs.Lookup.{keySlotOf, keyOf, masterKey, descriptorOf, keyPresent, lacksKey, entryAt, isVacant}
 use Rattle.volume.specs.DirectoryNames.{derivedKey, nameKey, stored, isUnreadable}
 use Rattle.volume.specs.Checks.{showCheck}
@@ -31,10 +31,9 @@ use Rattle.volume.specs.Bytewise.{Bytewise}
 use Rattle.volume.specs.SealedOpens.{ShowsAs}
 use Rattle.volume.specs.GivenNames.{Names, later, after, namesFrom, given}
 use Rattle.volume.specs.KeyedNames.{Keys, keyFor, renewed, keysAfter, keysFrom, namedUnder, HasKey, WrongKey, ShownByKey, EveryRunKeyed}
-use Rattle.volume.specs.declared.EntryNumber.{EntryNumber}
+use Rattle.ids.specs.declared.EntryNumber.{EntryNumber}
 use Rattle.volume.specs.declared.Inode.{Inode}
 use Rattle.volume.specs.declared.Volume.{Volume}
-use Rattle.volume.specs.declared.ShownEntry.{ShownEntry}
 use Rattle.volume.proofs.Passed.{key-present, show-passed}
 use Rattle.volume.proofs.Soundness.{fresh-sound, fresh-unused, sound-kept}
 use Rattle.volume.proofs.Bytewise.{fresh-bytes, bytewise-kept}

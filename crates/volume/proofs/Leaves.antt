@@ -11,13 +11,12 @@ use Rattle.errno.specs.Refusals.{number}
 use Rattle.errno.specs.declared.Errno.{Errno}
 use Rattle.fscrypt.specs.Cipher.{Cipher}
 use Rattle.volume.specs.Volume.{nameOf}
-use Rattle.volume.specs.Request.{Request, addKey, removeKey, setPolicy, getPolicy, create, link, rename, exchange, remove, find, show, seal, unseal, Answer, refused, done, created, at, policyIs, shown, Outcome, outcome}
+use Rattle.volume.specs.Request.{Request, addKey, removeKey, setPolicy, getPolicy, create, link, rename, exchange, remove, find, show, seal, unseal, Answer, refused, done, created, at, policyIs, shown, Outcome, outcome, ShownEntry}
 use Rattle.volume.specs.Lookup.{inodeAt, entryAt}
 use Rattle.volume.specs.DirectoryNames.{shownName}
 use Rattle.volume.specs.Step.{lent, effect, step}
 use Rattle.volume.specs.Leaves.{Refuses, Leaves}
-use Rattle.volume.specs.declared.EntryNumber.{EntryNumber}
-use Rattle.volume.specs.declared.ShownEntry.{ShownEntry}
+use Rattle.ids.specs.declared.EntryNumber.{EntryNumber}
 use Rattle.volume.specs.declared.Volume.{Volume}
 use Rattle.volume.proofs.Kept.{step-has, volume-has, was-done}
 use Rattle.volume.proofs.SealedOpens.{not-refused}
@@ -48,7 +47,7 @@ module _ (C : Cipher) (v : Volume) where
   effect-is (unseal i k b) = refl
 
   -- no effect answers a refusal
-  effect-answers : (r : Request) (m : ℕ) → (effect C v r) .answer ≡ refused m → ⊥
+  pub effect-answers : (r : Request) (m : ℕ) → (effect C v r) .answer ≡ refused m → ⊥
   effect-answers r m h = true≢false (sym (ap isRefusal h) ∙ effect-is r)
 
   -- a refusal comes of the check alone, and settles to what was there

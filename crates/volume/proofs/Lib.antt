@@ -1,10 +1,13 @@
 -- The laws of volume. Public are those that a crate above cites.
 mod Starred
+mod Computing
 mod Example
+mod Values
 mod Occasions
 -- one request, and lists of requests
 mod Kept
 mod SoundPolicy
+pub mod PlainMeanings
 pub mod Passed
 -- every reachable volume is sound
 mod SoundCore
@@ -19,12 +22,20 @@ mod SoundExchange
 mod SoundRemove
 pub mod Soundness
 mod Unsound
+-- what the tests mean
+mod Below
+pub mod Meanings
+mod MeaningsExample
 pub mod PolicyClause
 mod Bytewise
 mod ContextsStay
 pub mod SealedOpens
 pub mod ShownApart
 pub mod Leaves
+-- exactly when each request is done
+mod DoneWhenLines
+mod DoneWhenTables
+pub mod DoneWhen
 -- names and keys in every run
 mod NamesSince
 pub mod KeyedNames

@@ -22,8 +22,8 @@ use Rattle.volume.specs.Checks.{setPolicyCheck, createCheck, linkCheck, 
 use Rattle.volume.specs.Step.{childOf, withoutUnheld, check, effect, step}
 use Rattle.volume.specs.Sound.{Sound, Used, nodeAt, slotAt, dirOf}
 use Rattle.volume.specs.GivenNames.{onlyAt, named, naming, namedBy}
-use Rattle.volume.specs.declared.InodeNumber.{InodeNumber}
-use Rattle.volume.specs.declared.EntryNumber.{EntryNumber}
+use Rattle.ids.specs.declared.InodeNumber.{InodeNumber}
+use Rattle.ids.specs.declared.EntryNumber.{EntryNumber}
 use Rattle.volume.specs.declared.Inode.{Inode}
 use Rattle.volume.specs.declared.Entry.{Entry}
 use Rattle.volume.specs.declared.Volume.{Volume}

@@ -1,19 +1,15 @@
 -- What a passed table of checks tells: a law for each table but get policy's, which no proof needs; where there are several lines, a record with a field for each, in
 -- the table's order. Proofs about requests that were done read these fields, so that a further line of a table changes one law here. Assumes nothing.
 use Prim.Native.Nat.{ℕ, _≤_, _<_}
-use native.Mathlib.Omega.{arith}
-use mathlib.Core.Path.{_≡_, refl, sym, _∙_}
-use mathlib.Core.Logic.{_≢_, _↔_}
-use mathlib.Core.Bool.{Bool, true, false, true≢false}
+use mathlib.Core.Path.{_≡_, sym, _∙_}
+use mathlib.Core.Logic.{_≢_}
+use mathlib.Core.Bool.{true, false}
 use lib.Dec.{eqb, ltb}
 use borrow.Author.Tests.{eqb-false, ltb-false, leb-false}
 use Rattle.lists.specs.Bytes.{Bytes}
 use Rattle.lists.proofs.Tests.{not-false, if-true, if-false, and-known, or-left, or-right, eqb-true}
-use Rattle.errno.specs.Refusals.{_⇒_, _>>_}
-use Rattle.errno.specs.declared.Errno.{Errno}
-use Rattle.errno.specs.declared.Checked.{Checked}
 use Rattle.errno.specs.declared.Checked.the-variants.{Fine}
-use Rattle.errno.proofs.Chains.{passed}
+use Rattle.errno.proofs.ChainMeanings.{table-passes as line, line-passes as test}
 use Rattle.policy.specs.Policies.{samePolicy, policyCheck, readPolicy}
 use Rattle.fscrypt.specs.Cipher.{Cipher}
 use Rattle.fscrypt.specs.Names.{nameCheck}
@@ -22,22 +18,11 @@ use Rattle.volume.specs.Lookup.{keySlotOf, freeKeySlot, keyPresent, lack
 use Rattle.volume.specs.DirectoryNames.{stored, isUnreadable}
 use Rattle.volume.specs.Checks.{directoryCheck, isBadKind, isBadKeyLength, isNonceNeeded, nonceCheck, addKeyCheck, removeKeyCheck, setPolicyCheck, createCheck, linkCheck, renameCheck, exchangeCheck, removeCheck, findCheck, showCheck, blockCheck}
 use Rattle.volume.specs.Sound.{MayHold}
-use Rattle.volume.specs.declared.InodeNumber.{InodeNumber}
-use Rattle.volume.specs.declared.EntryNumber.{EntryNumber}
+use Rattle.ids.specs.declared.InodeNumber.{InodeNumber}
+use Rattle.ids.specs.declared.EntryNumber.{EntryNumber}
 use Rattle.volume.specs.declared.Inode.{Inode}
 use Rattle.volume.specs.declared.Volume.{Volume}
 use Rattle.volume.proofs.SoundPolicy.{may-hold}
-
--- ---- a table was passed where each of its lines was
-
-line : (a next : Checked) → (_>>_ a next ≡ Fine) ↔ ((a ≡ Fine) × (next ≡ Fine))
-unfolding _>>_
-line a next = (passed a next, λ p. rw (p .0) (p .1))
-
-test : (t : Bool) (e : Errno) → ((t ⇒ e) ≡ Fine) ↔ (t ≡ false)
-unfolding _⇒_
-test true e = (λ h. absurd (let z : _≡_ {A = ℕ} 0 1 = cc in omega arith), λ h. absurd (true≢false h))
-test false e = (λ h. refl, λ h. refl)
 
 -- ---- lines that requests share
 

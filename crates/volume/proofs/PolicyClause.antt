@@ -20,8 +20,8 @@ use Rattle.volume.specs.Checks.{directoryCheck, policyRefusal, linkCheck
 use Rattle.volume.specs.Step.{lent, check, effect, settle, step}
 use Rattle.volume.specs.Sound.{Sound, MayHold, Used, dirOf, nodeOf}
 use Rattle.volume.specs.PolicyClause.{WouldLack, LinkReady, RenameReady, ExchangeReady, GivesRefusal, PolicyClause}
-use Rattle.volume.specs.declared.InodeNumber.{InodeNumber}
-use Rattle.volume.specs.declared.EntryNumber.{EntryNumber}
+use Rattle.ids.specs.declared.InodeNumber.{InodeNumber}
+use Rattle.ids.specs.declared.EntryNumber.{EntryNumber}
 use Rattle.volume.specs.declared.Volume.{Volume}
 use Rattle.volume.proofs.SoundPolicy.{lacks-policy, not-lacking}
 use Rattle.volume.proofs.Soundness.{at-no-time}

@@ -19,7 +19,7 @@ use Rattle.errno.specs.declared.Checked.{Checked}
 use Rattle.fscrypt.specs.Cipher.{Cipher, Lawful}
 use Rattle.lists.proofs.ByteStrings.{length-zeros}
 use Rattle.volume.specs.Volume.{keySlots, inodeSlots, entrySlots, noKey, noInode, plainInode, noEntry, nameOf, fresh}
-use Rattle.volume.specs.Request.{Request, addKey, removeKey, setPolicy, getPolicy, create, link, rename, exchange, remove, find, show, seal, unseal, Answer, refused, Outcome, Typed, AllTyped}
+use Rattle.volume.specs.Request.{Request, addKey, removeKey, setPolicy, getPolicy, create, link, rename, exchange, remove, find, show, seal, unseal, Answer, refused, Outcome, Typed, AllTyped, Form, Plain, Decrypted, Encoded}
 use Rattle.volume.specs.Lookup.{isFreeKey, inodeAt, isVacant}
 use Rattle.volume.specs.Step.{lent, settle, step}
 use Rattle.volume.specs.Run.{Moment, momentOf, runFrom, run}
@@ -30,8 +30,6 @@ use Rattle.volume.specs.declared.Key.{Key}
 use Rattle.volume.specs.declared.Inode.{Inode}
 use Rattle.volume.specs.declared.Entry.{Entry}
 use Rattle.volume.specs.declared.Volume.{Volume}
-use Rattle.volume.specs.declared.Form.{Form}
-use Rattle.volume.specs.declared.Form.the-variants.{Plain, Decrypted, Encoded}
 use Rattle.volume.proofs.Twin.{identity, Setting, Alike, both-refuse, both-fine, keyFor, encName, encKey, encEntry, enc, KeyOk, InodeOk, EntryOk, Inv, Fits, ShownForm, ShownRight, StepTwin, Same}
 use Rattle.volume.proofs.TwinLookup.{enc-length}
 use Rattle.volume.proofs.TwinKeys.{addKey-twin, removeKey-twin, getPolicy-twin, find-twin, seal-twin, unseal-twin}

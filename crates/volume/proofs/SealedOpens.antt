@@ -24,7 +24,7 @@ use Rattle.fscrypt.specs.Encoded.{encoded}
 use Rattle.fscrypt.specs.declared.NameRead.{NameRead}
 use Rattle.fscrypt.proofs.Padding.{read-stored, nameBytes-packed}
 use Rattle.volume.specs.Volume.{noInode, noEntry, keyBytes, nameOf, entrySlot}
-use Rattle.volume.specs.Request.{Request, create, link, rename, show, seal, unseal, Answer, refused, done, created, at, shown, Outcome, outcome, Typed}
+use Rattle.volume.specs.Request.{Request, create, link, rename, show, seal, unseal, Answer, refused, done, created, at, shown, Outcome, outcome, Typed, ShownEntry, Form, Plain, Decrypted, Encoded}
 use Rattle.volume.specs.Lookup.{keySlotOf, keyOf, keyPresent, lacksKey, inodeAt, freeInode, entryAt, isVacant, freeEntry}
 use Rattle.volume.specs.DirectoryNames.{derivedKey, nameKey, stored, readName, shownName, isUnreadable, formIn}
 use Rattle.volume.specs.Checks.{blockCheck, showCheck}
@@ -32,15 +32,12 @@ use Rattle.volume.specs.Step.{lent, check, effect, settle, step, childOf
 use Rattle.volume.specs.Sound.{Sound, dirOf}
 use Rattle.volume.specs.Bytewise.{Bytewise}
 use Rattle.volume.specs.SealedOpens.{ShowsAs, SameKey, SameName, SealedOpens}
-use Rattle.volume.specs.declared.InodeNumber.{InodeNumber}
-use Rattle.volume.specs.declared.EntryNumber.{EntryNumber}
+use Rattle.ids.specs.declared.InodeNumber.{InodeNumber}
+use Rattle.ids.specs.declared.EntryNumber.{EntryNumber}
 use Rattle.volume.specs.declared.Key.{Key}
 use Rattle.volume.specs.declared.Inode.{Inode}
 use Rattle.volume.specs.declared.Entry.{Entry}
 use Rattle.volume.specs.declared.Volume.{Volume}
-use Rattle.volume.specs.declared.ShownEntry.{ShownEntry}
-use Rattle.volume.specs.declared.Form.{Form}
-use Rattle.volume.specs.declared.Form.the-variants.{Plain, Decrypted, Encoded}
 use Rattle.volume.proofs.Kept.{step-has, done-by, was-fine, was-done}
 use Rattle.volume.proofs.SoundCore.{slot-name}
 use Rattle.volume.proofs.SoundClimb.{num}

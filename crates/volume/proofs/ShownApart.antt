@@ -17,7 +17,7 @@ use Rattle.fscrypt.specs.Encoded.{encoded}
 use Rattle.fscrypt.proofs.Shown.{encoded-length-low, encoded-length-high, encoded-fair}
 use Rattle.fscrypt.proofs.Distinct.{encoded-apart}
 use Rattle.volume.specs.Volume.{nameOf}
-use Rattle.volume.specs.Request.{Request, show, shown, Outcome, AllTyped}
+use Rattle.volume.specs.Request.{Request, show, shown, Outcome, AllTyped, ShownEntry, Plain, Decrypted, Encoded}
 use Rattle.volume.specs.Lookup.{keyPresent, inodeAt, entryAt}
 use Rattle.volume.specs.DirectoryNames.{readName, shownName, formIn}
 use Rattle.volume.specs.Step.{lent, check, effect, step}
@@ -25,13 +25,11 @@ use Rattle.volume.specs.Run.{Moment, run}
 use Rattle.volume.specs.Sound.{Sound, Used, slotAt}
 use Rattle.volume.specs.Bytewise.{Bytewise}
 use Rattle.volume.specs.ShownApart.{ShownKeyless, KeepsPromise}
-use Rattle.volume.specs.declared.InodeNumber.{InodeNumber}
-use Rattle.volume.specs.declared.EntryNumber.{EntryNumber}
+use Rattle.ids.specs.declared.InodeNumber.{InodeNumber}
+use Rattle.ids.specs.declared.EntryNumber.{EntryNumber}
 use Rattle.volume.specs.declared.Inode.{Inode}
 use Rattle.volume.specs.declared.Entry.{Entry}
 use Rattle.volume.specs.declared.Volume.{Volume}
-use Rattle.volume.specs.declared.ShownEntry.{ShownEntry}
-use Rattle.volume.specs.declared.Form.the-variants.{Plain, Decrypted, Encoded}
 use Rattle.volume.proofs.SoundInvariant.{used-range}
 use Rattle.volume.proofs.Passed.{show-passed}
 use Rattle.volume.proofs.Soundness.{sound}

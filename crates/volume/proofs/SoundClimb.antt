@@ -3,7 +3,7 @@
 use Prim.Native.Nat.{ℕ, zero, suc, _≤_, _<_}
 use native.Mathlib.Omega.{arith}
 use mathlib.Core.Path.{_≡_, refl, sym, _∙_, ap, ap₂, subst}
-use mathlib.Core.Logic.{_≢_, _⊎_, inl, inr}
+use mathlib.Core.Logic.{_≢_, _⊎_, inl, inr, ⊎-elim}
 use mathlib.Core.Bool.{Bool, true, false, cond, not, _&&_, true≢false, false≢true}
 use mathlib.Core.List.{List}
 use lib.ListN.{getD}
@@ -12,10 +12,10 @@ use borrow.Author.Tests.{leb-true, leb-false, not-true, eq-eqb}
 use Rattle.lists.specs.Bytes.{firstAt}
 use Rattle.lists.proofs.Tests.{and-left, and-right, eqb-true, eqb-self, eqb-other}
 use Rattle.lists.proofs.Slots.{by-eq, by-test, within, firstAt-found, pigeonhole}
-use Rattle.volume.specs.Volume.{inodeSlots, noInode, noEntry}
+use Rattle.volume.specs.Volume.{inodeSlots, noInode, noEntry, rootNumber}
 use Rattle.volume.specs.Lookup.{isVacant, isLink, firstLink, parentOf, climbFrom, isMoved}
-use Rattle.volume.specs.Sound.{nodeAt, slotAt}
-use Rattle.volume.specs.declared.InodeNumber.{InodeNumber}
+use Rattle.volume.specs.Sound.{nodeAt, slotAt, EntryOf, Below, inside, deeper}
+use Rattle.ids.specs.declared.InodeNumber.{InodeNumber}
 use Rattle.volume.specs.declared.Inode.{Inode}
 use Rattle.volume.specs.declared.Entry.{Entry}
 use Rattle.volume.specs.declared.Volume.{Volume}
@@ -260,19 +260,31 @@ module _ (v : Volume) (ok : Core v) where
     above = avoid-leaf x h k (slotAt v (u .entry) .parent .0) (h (u .entry) (u .used)) (u .above);
   }
 
-  -- one that meets the root is a climb
-  pub climb-up : ((i : ℕ) → i ≢ 0 → kindAt i ≢ 0 → (e : ℕ) × InUse (slotAt v e) × (slotAt v e .inode .0 ≡ i)) → (m : InodeNumber) (n i : ℕ) → kindAt i ≡ 1
-      → isRoot (climbFrom v m n (num i)) ≡ true → Rooted (v .entries) i
-  unfolding climbFrom
-  climb-up held m zero i kd h = by-eq i 0 (λ z. (0, z)) (λ nz. absurd (false≢true (root-above (eqb i (m .0)) (eqb i 0) Neither (eqb-other i 0 nz) h)))
-  climb-up held m (suc n) i kd h =
-      by-eq i 0
-      (λ z. (0, z))
-      (λ nz.
-      let r = held i nz (λ z. absurd (omega arith)) in
-      let p : parentOf v (num i) ≡ slotAt v (r .0) .parent =
-      ap (λ (k : ℕ). parentOf v (num k)) (sym (r .2)) ∙ parent-is (r .0) (r .1) (ap kindAt (r .2) ∙ kd) in
-      let t : isRoot (climbFrom v m n (parentOf v (num i))) ≡ true = root-above (eqb i (m .0)) (eqb i 0) _ (eqb-other i 0 nz) h in
-      let u = climb-up held m n (slotAt v (r .0) .parent .0) (ok .joined .entries-ok (r .0) (r .1) .directory)
-      (ap (λ (q : InodeNumber). isRoot (climbFrom v m n q)) (sym p) ∙ t) in
-      (suc (u .0), record { entry = r .0; kept = tt; used = r .1; holds = r .2; above = u .1 }))
+-- ---- rooted is below the root
+
+module _ (v : Volume) where
+  pub in-use : (e : ℕ) → InUse (slotAt v e) → (slotAt v e) .len ≢ 0
+  in-use e u z = true≢false (sym (eq-eqb _ 0 z) ∙ u)
+
+  -- an inode whose directory is d or stands below it stands below d
+  pub one-more : (d i : InodeNumber) (e : ℕ) → InUse (slotAt v e) → slotAt v e .inode ≡ i → (slotAt v e .parent ≡ d) ⊎ Below v d (slotAt v e .parent) → Below v d i
+  one-more d i e u q r =
+      let of : EntryOf v i e = record { in-use = in-use e u; inode = q } in
+      ⊎-elim (λ p. inside e (record { in-use = in-use e u; parent = p }) of) (λ b. deeper e b (record { in-use = in-use e u; parent = refl }) of) r
+
+  pub rooted-below : (k i : ℕ) → Up (v .entries) Any k i → (num i ≡ rootNumber) ⊎ Below v rootNumber (num i)
+  rooted-below zero i u = inl (ap num u)
+  rooted-below (suc k) i u =
+      inr (one-more rootNumber (num i) (u .entry) (u .used) (ap num (u .holds)) (rooted-below k (slotAt v (u .entry) .parent .0) (u .above)))
+
+  step-up : (i : InodeNumber) (e k : ℕ) → EntryOf v i e → Up (v .entries) Any k (slotAt v e .parent .0) → Rooted (v .entries) (i .0)
+  step-up i e k b u = (suc k, record { entry = e; kept = tt; used = eqb-other _ 0 (b .in-use); holds = ap (λ (n : InodeNumber). n .0) (b .inode); above = u })
+
+  under-rooted : {d i : InodeNumber} → d ≡ rootNumber → Below v d i → Rooted (v .entries) (i .0)
+  under-rooted {d} {i} z (inside e a b) = step-up i e 0 b (ap (λ (n : InodeNumber). n .0) (a .parent ∙ z))
+  under-rooted {d} {i} z (deeper e c a b) =
+      let r = under-rooted z c in
+      step-up i e (r .0) b (subst (λ (n : InodeNumber). Up (v .entries) Any (r .0) (n .0)) (sym (a .parent)) (r .1))
+
+  pub below-rooted : (i : InodeNumber) → (i ≡ rootNumber) ⊎ Below v rootNumber i → Rooted (v .entries) (i .0)
+  below-rooted i r = ⊎-elim (λ z. (0, ap (λ (n : InodeNumber). n .0) z)) (under-rooted refl) r

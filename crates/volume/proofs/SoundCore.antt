@@ -22,7 +22,7 @@ use Rattle.volume.specs.Lookup.{isFreeKey, isVacant, isNamed, isTaken, e
 use Rattle.volume.specs.Checks.{isBadKeyLength}
 use Rattle.volume.specs.Step.{withKeys, withInodes, withEntries}
 use Rattle.volume.specs.Sound.{MayHold, keyAt, nodeAt, slotAt}
-use Rattle.volume.specs.declared.InodeNumber.{InodeNumber}
+use Rattle.ids.specs.declared.InodeNumber.{InodeNumber}
 use Rattle.volume.specs.declared.Key.{Key}
 use Rattle.volume.specs.declared.Inode.{Inode}
 use Rattle.volume.specs.declared.Entry.{Entry}

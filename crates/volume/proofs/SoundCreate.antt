@@ -20,7 +20,7 @@ use Rattle.volume.specs.DirectoryNames.{stored}
 use Rattle.volume.specs.Checks.{createCheck}
 use Rattle.volume.specs.Step.{withInodes, withEntries, childOf, effect}
 use Rattle.volume.specs.Sound.{MayHold, nodeAt, slotAt}
-use Rattle.volume.specs.declared.InodeNumber.{InodeNumber}
+use Rattle.ids.specs.declared.InodeNumber.{InodeNumber}
 use Rattle.volume.specs.declared.Inode.{Inode}
 use Rattle.volume.specs.declared.Entry.{Entry}
 use Rattle.volume.specs.declared.Volume.{Volume}

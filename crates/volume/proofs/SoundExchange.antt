@@ -18,7 +18,7 @@ use Rattle.volume.specs.Lookup.{isVacant, isUnderItself}
 use Rattle.volume.specs.Checks.{exchangeCheck}
 use Rattle.volume.specs.Step.{withEntries, withInode, effect}
 use Rattle.volume.specs.Sound.{MayHold, slotAt, dirOf, nodeOf}
-use Rattle.volume.specs.declared.EntryNumber.{EntryNumber}
+use Rattle.ids.specs.declared.EntryNumber.{EntryNumber}
 use Rattle.volume.specs.declared.Entry.{Entry}
 use Rattle.volume.specs.declared.Volume.{Volume}
 use Rattle.volume.proofs.SoundCore.{EntryOk, InUse, SameName, SameNode}

@@ -14,7 +14,6 @@ use Rattle.lists.specs.Bytes.{Bytes, same}
 use Rattle.lists.proofs.Tests.{and-left, and-right, and-known, same-of-eq}
 use Rattle.lists.proofs.Slots.{by-test, by-cond, within, search-none}
 use Rattle.errno.specs.declared.Checked.the-variants.{Fine}
-use Rattle.policy.proofs.Codec.{samePolicy-refl}
 use Rattle.fscrypt.specs.Cipher.{Cipher, Lawful}
 use Rattle.fscrypt.specs.Names.{nameCheck, paddedLength, padded, encrypted}
 use Rattle.fscrypt.proofs.Padding.{pad-fits, length-padded, plain-name}
@@ -24,7 +23,7 @@ use Rattle.volume.specs.DirectoryNames.{nameKey, stored}
 use Rattle.volume.specs.Checks.{isNonceNeeded}
 use Rattle.volume.specs.Step.{withInode, childOf}
 use Rattle.volume.specs.Sound.{MayHold, nodeAt, slotAt}
-use Rattle.volume.specs.declared.InodeNumber.{InodeNumber}
+use Rattle.ids.specs.declared.InodeNumber.{InodeNumber}
 use Rattle.volume.specs.declared.Inode.{Inode}
 use Rattle.volume.specs.declared.Entry.{Entry}
 use Rattle.volume.specs.declared.Volume.{Volume}
@@ -166,7 +165,7 @@ module _ (dir : Inode) (kind : ℕ) (x : Bytes) where
   unfolding childOf isNonceNeeded
   child-policy =
       by-cond (MayHold dir) (dir .encrypted && leb kind 3) _ _
-      (λ e d k. record { has-context = refl; same = samePolicy-refl (dir .context .policy) })
+      (λ e d k. record { has-context = refl; same = refl })
       (λ e d k. absurd (true≢false (sym (le-leb kind 3 k) ∙ and-known d e)))
 
   pub child-nonce : (childOf dir kind x) .encrypted ≡ true → (isNonceNeeded dir kind ≡ true) × ((childOf dir kind x) .context .nonce ≡ x)

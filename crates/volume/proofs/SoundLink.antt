@@ -16,7 +16,7 @@ use Rattle.volume.specs.DirectoryNames.{stored}
 use Rattle.volume.specs.Checks.{linkCheck}
 use Rattle.volume.specs.Step.{effect}
 use Rattle.volume.specs.Sound.{nodeAt, slotAt}
-use Rattle.volume.specs.declared.InodeNumber.{InodeNumber}
+use Rattle.ids.specs.declared.InodeNumber.{InodeNumber}
 use Rattle.volume.specs.declared.Inode.{Inode}
 use Rattle.volume.specs.declared.Volume.{Volume}
 use Rattle.volume.proofs.SoundCore.{store-core}

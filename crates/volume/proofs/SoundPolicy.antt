@@ -6,6 +6,7 @@ use native.Mathlib.Omega.{arith}
 use lib.Dec.{leb}
 use borrow.Author.Tests.{leb-true, le-leb}
 use Rattle.lists.proofs.Tests.{not-false, and-left, and-right, and-known}
+use Rattle.policy.proofs.Meanings.{same-policy}
 use Rattle.volume.specs.Checks.{isPolicyRefused}
 use Rattle.volume.specs.Sound.{MayHold}
 use Rattle.volume.specs.PolicyClause.{WouldLack}
@@ -16,7 +17,7 @@ module _ (dir node : Inode) where
   unfolding isPolicyRefused
   may-hold h e k =
       let t = not-false (and-known (le-leb (node .kind) _ (omega arith)) (and-known e h)) in
-      record { has-context = and-left (node .encrypted) _ t; same = and-right (node .encrypted) _ t }
+      record { has-context = and-left (node .encrypted) _ t; same = same-policy _ _ .0 (and-right (node .encrypted) _ t) }
 
   pub lacks-policy : isPolicyRefused dir node ≡ true → WouldLack dir node
   unfolding isPolicyRefused
@@ -26,7 +27,7 @@ module _ (dir node : Inode) where
       record {
         is-encrypted = and-left (dir .encrypted) _ t;
         not-special = omega arith;
-        lacks = λ p. true≢false (sym (and-right (leb (node .kind) _) _ r) ∙ ap not (ap₂ _&&_ (p .has-context) (p .same)));
+        lacks = λ p. true≢false (sym (and-right (leb (node .kind) _) _ r) ∙ ap not (ap₂ _&&_ (p .has-context) (same-policy _ _ .1 (p .same))));
       }
 
   pub not-lacking : isPolicyRefused dir node ≡ false → WouldLack dir node → ⊥

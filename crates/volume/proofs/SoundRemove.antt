@@ -19,8 +19,8 @@ use Rattle.volume.specs.Lookup.{inodeAt, entryAt, isVacant, hasEntries, 
 use Rattle.volume.specs.Checks.{removeCheck}
 use Rattle.volume.specs.Step.{withEntries, withoutUnheld, effect}
 use Rattle.volume.specs.Sound.{nodeAt, slotAt}
-use Rattle.volume.specs.declared.InodeNumber.{InodeNumber}
-use Rattle.volume.specs.declared.EntryNumber.{EntryNumber}
+use Rattle.ids.specs.declared.InodeNumber.{InodeNumber}
+use Rattle.ids.specs.declared.EntryNumber.{EntryNumber}
 use Rattle.volume.specs.declared.Inode.{Inode}
 use Rattle.volume.specs.declared.Entry.{Entry}
 use Rattle.volume.specs.declared.Volume.{Volume}

@@ -17,8 +17,8 @@ use Rattle.volume.specs.DirectoryNames.{stored}
 use Rattle.volume.specs.Checks.{renameCheck}
 use Rattle.volume.specs.Step.{withEntries, effect}
 use Rattle.volume.specs.Sound.{slotAt}
-use Rattle.volume.specs.declared.InodeNumber.{InodeNumber}
-use Rattle.volume.specs.declared.EntryNumber.{EntryNumber}
+use Rattle.ids.specs.declared.InodeNumber.{InodeNumber}
+use Rattle.ids.specs.declared.EntryNumber.{EntryNumber}
 use Rattle.volume.specs.declared.Entry.{Entry}
 use Rattle.volume.specs.declared.Volume.{Volume}
 use Rattle.volume.proofs.SoundCore.{EntryOk, InUse, slot-used, store-core}

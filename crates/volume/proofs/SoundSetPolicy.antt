@@ -20,7 +20,7 @@ use Rattle.volume.specs.Lookup.{inodeAt}
 use Rattle.volume.specs.Checks.{setPolicyCheck}
 use Rattle.volume.specs.Step.{withInodes, effect}
 use Rattle.volume.specs.Sound.{nodeAt, slotAt}
-use Rattle.volume.specs.declared.InodeNumber.{InodeNumber}
+use Rattle.ids.specs.declared.InodeNumber.{InodeNumber}
 use Rattle.volume.specs.declared.Inode.{Inode}
 use Rattle.volume.specs.declared.Volume.{Volume}
 use Rattle.volume.proofs.SoundCore.{InodeOk, EntryOk, InUse, nodeIn, none-in, put-core}

@@ -12,22 +12,25 @@ use Rattle.lists.specs.Bytes.{zeros}
 use Rattle.lists.proofs.Tests.{eqb-true, eqb-other}
 use Rattle.lists.proofs.Slots.{by-eq, by-test, all-same}
 use Rattle.errno.specs.declared.Checked.the-variants.{Fine}
+use Rattle.policy.proofs.Meanings.{valid}
 use Rattle.fscrypt.specs.Cipher.{Cipher, Lawful}
+use Rattle.fscrypt.proofs.NameMeanings.{nameCheck-fine}
 use Rattle.volume.specs.Volume.{keySlots, inodeSlots, entrySlots, noKey, noInode, noEntry, plainInode, nameOf, fresh}
 use Rattle.volume.specs.Request.{Request, addKey, removeKey, setPolicy, getPolicy, create, link, rename, exchange, remove, find, show, seal, unseal, Typed, AllTyped}
-use Rattle.volume.specs.Lookup.{isFreeKey, inodeAt, isFree, isVacant, climbFrom}
+use Rattle.volume.specs.Lookup.{isFreeKey, inodeAt, isVacant, climbFrom}
 use Rattle.volume.specs.Step.{check, effect, step}
 use Rattle.volume.specs.Run.{Moment, run}
 use Rattle.volume.specs.Sound.{Sound, Used, BearsPolicy, keyAt, nodeAt, slotAt, dirOf, nodeOf}
-use Rattle.volume.specs.declared.InodeNumber.{InodeNumber}
+use Rattle.ids.specs.declared.InodeNumber.{InodeNumber}
 use Rattle.volume.specs.declared.Inode.{Inode}
 use Rattle.volume.specs.declared.Entry.{Entry}
 use Rattle.volume.specs.declared.Volume.{Volume}
 use Rattle.volume.specs.declared.Met.the-variants.{Root, Neither}
+use Rattle.volume.proofs.PlainMeanings.{key-length}
 use Rattle.volume.proofs.Kept.{volume-has, kept-always}
 pub use Rattle.volume.proofs.Bytewise.{fresh-bytes, bytewise}
 use Rattle.volume.proofs.SoundCore.{Core, KeyOk, no-key-ok, InodeOk, plain-ok, no-inode-ok}
-use Rattle.volume.proofs.SoundClimb.{num, Any, Up, isRoot, hasEnded, in-range, up-short, climb-root, climb-ends, climb-up}
+use Rattle.volume.proofs.SoundClimb.{num, Any, Up, hasEnded, in-range, up-short, climb-root, climb-ends, rooted-below, below-rooted}
 use Rattle.volume.proofs.SoundInvariant.{Inv, one≢zero}
 use Rattle.volume.proofs.SoundKeys.{addKey-keeps, removeKey-keeps}
 use Rattle.volume.proofs.SoundSetPolicy.{setPolicy-keeps}
@@ -60,7 +63,7 @@ module _ (v : Volume) (ok : Inv v) where
         key-slots = c .keyring-ok .key-slots;
         inode-slots = c .nodes-ok .inode-slots;
         entry-slots = c .joined .entry-slots;
-        key-lengths = λ k. c .keyring-ok .keys-ok k .size;
+        key-lengths = λ k u. key-length _ .0 (c .keyring-ok .keys-ok k .size u);
         key-sizes = λ k. c .keyring-ok .keys-ok k .bytes-there;
         descriptors = λ k. c .keyring-ok .keys-ok k .descriptor;
         descriptors-apart = λ j k a b d. c .keyring-ok .descriptors j k (a, b, d);
@@ -74,18 +77,15 @@ module _ (v : Volume) (ok : Inv v) where
         root-unheld = λ e u. c .joined .entries-ok e u .not-root;
         has-entry = λ i nz f. ok .held i nz (eqb-false _ _ f);
         one-entry = λ a b ua ub q k. c .joined .nodes a b (ua, ub, ap (λ (n : InodeNumber). n .0) q, k);
-        reachable = λ i k.
-            let r = ok .tree i k in
-            let b = up-short v c Any (r .0) i k (r .1) in
-            climb-root v c Any (num inodeSlots) (λ j kj q. absurd (omega (arith, in-range v c j (one≢zero kj), q))) inodeSlots (r .0) i (omega arith) k (r .1);
+        reachable = λ i k. let r = ok .tree (i .0) k in rooted-below v (r .0) (i .0) (r .1);
         names-apart = λ a b ua ub q n. c .joined .names a b (ua, ub, ap (λ (x : InodeNumber). x .0) q, n);
         policies = λ e u. c .joined .entries-ok e u .policy;
         specials-plain = λ i k. by-test (nodeAt v i .encrypted) (λ t. absurd (omega (arith, k, c .nodes-ok .inodes-ok i .context t .kind))) (λ f. f);
-        contexts-valid = λ i t. c .nodes-ok .inodes-ok i .context t .valid;
+        contexts-valid = λ i t. valid _ .0 (c .nodes-ok .inodes-ok i .context t .valid);
         context-descriptors = λ i. c .nodes-ok .inodes-ok i .descriptor;
         context-nonces = λ i. c .nodes-ok .inodes-ok i .nonce;
         nonces-apart = λ i j a b n. c .nodes-ok .nonces i j (a, b, n);
-        plain-names = λ e u. c .joined .entries-ok e u .name .plain;
+        plain-names = λ e u f. nameCheck-fine _ .0 (c .joined .entries-ok e u .name .plain f);
         encrypted-lengths = λ e u. c .joined .entries-ok e u .name .sealed;
         free-keys = λ k. c .keyring-ok .keys-ok k .free;
         free-inodes = λ i t. c .nodes-ok .inodes-ok i .free (eqb-true t);
@@ -106,7 +106,7 @@ module _ (v : Volume) (s : Sound v) where
     keyring-ok = record {
       key-slots = s .key-slots;
       keys-ok = λ k.
-          record { size = s .key-lengths k; bytes-there = s .key-sizes k; descriptor = s .descriptors k; free = s .free-keys k; unused = s .unused-key-bytes k };
+          record { size = λ u. key-length _ .1 (s .key-lengths k u); bytes-there = s .key-sizes k; descriptor = s .descriptors k; free = s .free-keys k; unused = s .unused-key-bytes k };
       descriptors = λ j k r. s .descriptors-apart j k (r .0) (r .1) (r .2);
     };
     nodes-ok = record {
@@ -118,7 +118,7 @@ module _ (v : Volume) (s : Sound v) where
             context = λ e.
                 record {
                   kind = by-eq (nodeAt v i .kind) 4 (λ q. absurd (true≢false (sym e ∙ s .specials-plain i q))) (λ ne. omega (arith, s .kinds i, ne));
-                  valid = s .contexts-valid i e;
+                  valid = valid _ .1 (s .contexts-valid i e);
                 };
             descriptor = s .context-descriptors i;
             nonce = s .context-nonces i;
@@ -136,7 +136,7 @@ module _ (v : Volume) (s : Sound v) where
             holds = eqb-false _ _ (s .inodes-in-use e u);
             not-root = s .root-unheld e u;
             policy = s .policies e u;
-            name = record { some = s .name-lengths e u .0; fits = s .name-lengths e u .1; plain = s .plain-names e u; sealed = s .encrypted-lengths e u };
+            name = record { some = s .name-lengths e u .0; fits = s .name-lengths e u .1; plain = λ f. nameCheck-fine _ .1 (s .plain-names e u f); sealed = s .encrypted-lengths e u };
             slot = λ i.
                 record {
                   len = sym (s .name-sizes e) i;
@@ -155,7 +155,7 @@ module _ (v : Volume) (s : Sound v) where
   sound-inv = record {
     core = sound-core;
     held = has-holder;
-    tree = λ i k. climb-up v sound-core has-holder (num inodeSlots) inodeSlots i k (ap isRoot (s .reachable i k));
+    tree = λ i k. below-rooted v (num i) (s .reachable (num i) k);
   }
 
 -- ---- the fresh volume
@@ -252,7 +252,10 @@ budget v s moved p k q =
     let b = up-short v (ok .core) Any (r .0) (p .0) k (r .1) in
     true≢false (sym (climb-ends v (ok .core) Any moved inodeSlots (r .0) (p .0) (omega arith) k (r .1)) ∙ ap hasEnded q)
 
--- every inode in use but the root stands in a directory from which the climb meets the root
-pub reached : (v : Volume) → Sound v → (i : ℕ) → i ≢ 0 → isFree (nodeAt v i) ≡ false
-    → (e : ℕ) × Used v e × (slotAt v e .inode .0 ≡ i) × (climbFrom v (num inodeSlots) inodeSlots (slotAt v e .parent) ≡ Root)
-reached v s i nz f = let r = s .has-entry i nz f in (r .0, r .1, r .2, s .reachable (slotAt v (r .0) .parent .0) (s .parents (r .0) (r .1)))
+-- the climb from a directory meets the root, where it looks for a number that no inode has
+pub climb-meets-root : (v : Volume) → Sound v → (i : ℕ) → (nodeAt v i) .kind ≡ 1 → climbFrom v (num inodeSlots) inodeSlots (num i) ≡ Root
+climb-meets-root v s i k =
+    let c = sound-inv v s .core in
+    let r = sound-inv v s .tree i k in
+    let b = up-short v c Any (r .0) i k (r .1) in
+    climb-root v c Any (num inodeSlots) (λ j kj q. absurd (omega (arith, in-range v c j (one≢zero kj), q))) inodeSlots (r .0) i (omega arith) k (r .1)

@@ -17,7 +17,7 @@ use Rattle.policy.specs.Policies.{nameKeySize}
 use Rattle.fscrypt.specs.Cipher.{Cipher, Lawful}
 use Rattle.fscrypt.specs.Names.{nameCheck, padded}
 use Rattle.volume.specs.Volume.{entrySlots, noKey, noInode, nameOf}
-use Rattle.volume.specs.Request.{Request, addKey, removeKey, setPolicy, getPolicy, create, link, rename, exchange, remove, find, show, seal, unseal, Answer, refused, done, created, at, policyIs, shown, Outcome}
+use Rattle.volume.specs.Request.{Request, addKey, removeKey, setPolicy, getPolicy, create, link, rename, exchange, remove, find, show, seal, unseal, Answer, refused, done, created, at, policyIs, shown, Outcome, Form, Plain, Decrypted, Encoded}
 use Rattle.volume.specs.Lookup.{isFreeKey, descriptorOf, isVacant}
 use Rattle.volume.specs.Step.{check, effect}
 use Rattle.volume.specs.Sound.{slotAt, Used, dirOf}
@@ -27,8 +27,6 @@ use Rattle.volume.specs.declared.Key.{Key}
 use Rattle.volume.specs.declared.Inode.{Inode}
 use Rattle.volume.specs.declared.Entry.{Entry}
 use Rattle.volume.specs.declared.Volume.{Volume}
-use Rattle.volume.specs.declared.Form.{Form}
-use Rattle.volume.specs.declared.Form.the-variants.{Plain, Decrypted, Encoded}
 
 abbrev pub identity : Cipher
 identity = record { derive = λ k x. k; encryptName = λ k x. x; decryptName = λ k x. x; seal = λ k n x. x; unseal = λ k n x. x }

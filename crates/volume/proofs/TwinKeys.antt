@@ -18,7 +18,7 @@ use Rattle.volume.specs.Checks.{isBadKeyLength, addKeyCheck, removeKeyCh
 use Rattle.volume.specs.Step.{withKeys, check, effect}
 use Rattle.volume.specs.GivenNames.{Names, namedBy, naming, named}
 use Rattle.volume.specs.TwoRuns.{blankBuffer, blankBlock}
-use Rattle.volume.specs.declared.InodeNumber.{InodeNumber}
+use Rattle.ids.specs.declared.InodeNumber.{InodeNumber}
 use Rattle.volume.specs.declared.Key.{Key}
 use Rattle.volume.specs.declared.Volume.{Volume}
 use Rattle.volume.proofs.Twin.{Setting, test, part, both-fine, encKey, enc, KeyOk, Inv, Same}

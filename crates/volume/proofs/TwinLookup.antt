@@ -25,13 +25,13 @@ use Rattle.volume.specs.DirectoryNames.{derivedKey, nameKey, stored, for
 use Rattle.volume.specs.Checks.{directoryCheck}
 use Rattle.volume.specs.Sound.{slotAt}
 use Rattle.volume.specs.GivenNames.{Names}
-use Rattle.volume.specs.declared.InodeNumber.{InodeNumber}
-use Rattle.volume.specs.declared.EntryNumber.{EntryNumber}
+use Rattle.ids.specs.declared.InodeNumber.{InodeNumber}
+use Rattle.ids.specs.declared.EntryNumber.{EntryNumber}
 use Rattle.volume.specs.declared.Key.{Key}
 use Rattle.volume.specs.declared.Inode.{Inode}
 use Rattle.volume.specs.declared.Entry.{Entry}
 use Rattle.volume.specs.declared.Volume.{Volume}
-use Rattle.volume.specs.declared.Form.the-variants.{Plain, Decrypted, Encoded}
+use Rattle.volume.specs.Request.{Plain, Decrypted, Encoded}
 use Rattle.volume.specs.declared.Met.{Met}
 use Rattle.volume.specs.declared.Met.the-variants.{Moved, Root}
 use Rattle.volume.proofs.Passed.{key-present}

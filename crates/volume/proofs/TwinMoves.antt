@@ -16,8 +16,8 @@ use Rattle.volume.specs.Checks.{isPolicyRefused, exchangeCheck, removeCh
 use Rattle.volume.specs.Step.{withEntries, withInode, withoutUnheld, check, effect}
 use Rattle.volume.specs.GivenNames.{Names, namedBy, naming, named}
 use Rattle.volume.specs.TwoRuns.{blankBuffer}
-use Rattle.volume.specs.declared.InodeNumber.{InodeNumber}
-use Rattle.volume.specs.declared.EntryNumber.{EntryNumber}
+use Rattle.ids.specs.declared.InodeNumber.{InodeNumber}
+use Rattle.ids.specs.declared.EntryNumber.{EntryNumber}
 use Rattle.volume.specs.declared.Inode.{Inode}
 use Rattle.volume.specs.declared.Entry.{Entry}
 use Rattle.volume.specs.declared.Volume.{Volume}

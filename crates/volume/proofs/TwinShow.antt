@@ -22,19 +22,17 @@ use Rattle.fscrypt.proofs.Padding.{readPadded-padded, nameBytes-packed}
 use Rattle.fscrypt.proofs.Lettering.{length-front, marks, encoded-long}
 use Rattle.fscrypt.proofs.Shown.{length-short, length-encoded}
 use Rattle.volume.specs.Volume.{nameOf}
-use Rattle.volume.specs.Request.{show, Answer, shown, outcome}
+use Rattle.volume.specs.Request.{show, Answer, shown, outcome, Form, Plain, Decrypted, Encoded}
 use Rattle.volume.specs.Lookup.{keyPresent, inodeAt, entryAt, isVacant}
 use Rattle.volume.specs.DirectoryNames.{nameKey, readName, shownName, isUnreadable, formIn}
 use Rattle.volume.specs.Checks.{showCheck}
 use Rattle.volume.specs.Step.{check, effect}
 use Rattle.volume.specs.GivenNames.{Names, namedBy, naming, named}
 use Rattle.volume.specs.TwoRuns.{blankLetters, blankShown, blankName, blankBuffer}
-use Rattle.volume.specs.declared.EntryNumber.{EntryNumber}
+use Rattle.ids.specs.declared.EntryNumber.{EntryNumber}
 use Rattle.volume.specs.declared.Inode.{Inode}
 use Rattle.volume.specs.declared.Entry.{Entry}
 use Rattle.volume.specs.declared.Volume.{Volume}
-use Rattle.volume.specs.declared.Form.{Form}
-use Rattle.volume.specs.declared.Form.the-variants.{Plain, Decrypted, Encoded}
 use Rattle.volume.proofs.Twin.{identity, Setting, test, never, both-fine, encName, encEntry, enc, Inv, EntryOk, ShownForm, StepTwin, Same}
 use Rattle.volume.proofs.TwinLookup.{name-back, enc-length, entry-name, present-twin, form-twin, name-key, entry-twin}
 

@@ -19,8 +19,8 @@ use Rattle.volume.specs.DirectoryNames.{stored}
 use Rattle.volume.specs.Step.{withInodes}
 use Rattle.volume.specs.Sound.{slotAt, Used, dirOf}
 use Rattle.volume.specs.GivenNames.{Names, onlyAt, later}
-use Rattle.volume.specs.declared.InodeNumber.{InodeNumber}
-use Rattle.volume.specs.declared.EntryNumber.{EntryNumber}
+use Rattle.ids.specs.declared.InodeNumber.{InodeNumber}
+use Rattle.ids.specs.declared.EntryNumber.{EntryNumber}
 use Rattle.volume.specs.declared.Inode.{Inode}
 use Rattle.volume.specs.declared.Entry.{Entry}
 use Rattle.volume.specs.declared.Volume.{Volume}

@@ -7,8 +7,8 @@ use Prim.Native.Nat.{ℕ}
 use lib.ListN.{length}
 use Rattle.lists.specs.Bytes.{Bytes, ByteList}
 use Rattle.volume.specs.Request.{Request, Typed, AllTyped, thirteen}
-use Rattle.volume.specs.declared.InodeNumber.{InodeNumber}
-use Rattle.volume.specs.declared.EntryNumber.{EntryNumber}
+use Rattle.ids.specs.declared.InodeNumber.{InodeNumber}
+use Rattle.ids.specs.declared.EntryNumber.{EntryNumber}
 
 pub none-typed : AllTyped []
 none-typed r h = absurd (List·Memᴰ·not-nil h)

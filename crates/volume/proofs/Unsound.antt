@@ -3,6 +3,7 @@
 use Prim.Native.Nat.{ℕ}
 use native.Mathlib.Omega.{arith}
 use mathlib.Core.Path.{refl, _∙_, ap}
+use mathlib.Core.Logic.{⊎-elim}
 use mathlib.Core.Bool.{false, true≢false, false≢true}
 use mathlib.Core.List.{[], _∷_, _++_}
 use lib.ListN.{getD, replicate, set}
@@ -11,13 +12,12 @@ use borrow.Author.Tests.{leb-false}
 use Rattle.lists.specs.Bytes.{Bytes, zeros, firstAt, same}
 use Rattle.lists.proofs.Tests.{if-true, if-false}
 use Rattle.lists.proofs.Slots.{by-test}
-use Rattle.errno.specs.Refusals.{_⇒_, _>>_, isFine}
-use Rattle.policy.specs.Policies.{isPair, isValid, samePolicy, noPolicy}
+use Rattle.policy.specs.Policies.{noPolicy}
+use Rattle.policy.specs.declared.Policy.{Policy}
 use Rattle.policy.specs.declared.Context.{Context}
-use Rattle.fscrypt.specs.Names.{isDotName, isBadName, nameCheck, rounded, paddedLength}
+use Rattle.fscrypt.specs.Names.{rounded, paddedLength}
 use Rattle.volume.specs.Volume.{noKey, noInode, noEntry, plainInode, encryptedInode, keySlot, entrySlot, fresh}
 use Rattle.volume.specs.Lookup.{firstLink, parentOf, climbFrom}
-use Rattle.volume.specs.Checks.{isBadKeyLength}
 use Rattle.volume.specs.Step.{withKeys, withInodes, withEntries}
 use Rattle.volume.specs.Sound.{Sound}
 use Rattle.volume.specs.declared.Key.{Key}
@@ -25,7 +25,7 @@ use Rattle.volume.specs.declared.Inode.{Inode}
 use Rattle.volume.specs.declared.Entry.{Entry}
 use Rattle.volume.specs.declared.Volume.{Volume}
 use Rattle.volume.proofs.SoundClimb.{num, isRoot}
-use Rattle.volume.proofs.Soundness.{fresh-unused}
+use Rattle.volume.proofs.Soundness.{fresh-unused, climb-meets-root}
 
 -- ---- volumes with one slot set
 
@@ -80,8 +80,8 @@ no-entry-64 s = omega (arith, s .entry-slots)
 -- ---- document 01: "each an 8-byte descriptor and a master key of 16, 32, 48 or 64 bytes"; a descriptor is on the keyring once
 
 no-key-of-24 : Sound (withKey 0 (keySlot (zeros 8) (zeros 24)) fresh) → ⊥
-unfolding fresh zeros isBadKeyLength
-no-key-of-24 s = true≢false (s .key-lengths 0 refl)
+unfolding fresh zeros
+no-key-of-24 s = ⊎-elim (λ e. omega (arith, e)) (⊎-elim (λ e. omega (arith, e)) (⊎-elim (λ e. omega (arith, e)) (λ e. omega (arith, e)))) (s .key-lengths 0 refl)
 
 no-lacking-key-bytes : Sound (withKey 0 (record { len = 64; descriptor = zeros 8; bytes = zeros 5 }) fresh) → ⊥
 unfolding fresh zeros
@@ -157,7 +157,7 @@ no-directory-twice s = omega (arith, s .one-entry 0 1 refl refl refl refl)
 
 no-two-in-each-other : Sound (withSlot 0 (entryIn 2 1 (97 ∷ [])) (withSlot 1 (entryIn 1 2 (98 ∷ [])) (withNode 2 (plainInode 1) (holding (plainInode 1))))) → ⊥
 unfolding fresh firstAt firstLink parentOf climbFrom
-no-two-in-each-other s = false≢true (ap isRoot (s .reachable 1 refl))
+no-two-in-each-other s = false≢true (ap isRoot (climb-meets-root _ s 1 refl))
 
 -- ---- stored names within a directory are distinct
 
@@ -172,12 +172,13 @@ unfolding fresh zeros
 no-plain-file-within s = false≢true (s .policies 1 refl refl (omega arith) .has-context)
 
 no-other-flags-within : Sound (within (encryptedNode 1 2 (zeros 8) (nonce 2)) (zeros 32)) → ⊥
-unfolding fresh zeros samePolicy
-no-other-flags-within s = false≢true (s .policies 1 refl refl (omega arith) .same)
+unfolding fresh zeros
+no-other-flags-within s = omega (arith, ap (λ (p : Policy). p .flags) (s .policies 1 refl refl (omega arith) .same))
 
-no-other-descriptor-within : Sound (within (encryptedNode 3 3 (1 ∷ zeros 7) (nonce 2)) (zeros 32)) → ⊥
-unfolding fresh zeros samePolicy same
-no-other-descriptor-within s = false≢true (s .policies 1 refl refl (omega arith) .same)
+-- by its last byte alone
+no-other-descriptor-within : Sound (within (encryptedNode 3 3 (zeros 7 ++ 1 ∷ []) (nonce 2)) (zeros 32)) → ⊥
+unfolding fresh zeros
+no-other-descriptor-within s = omega (arith, ap (λ (p : Policy). getD (p .descriptor) 7 0) (s .policies 1 refl refl (omega arith) .same))
 
 -- ---- document 01: "a special child gets no context"; a context's policy is valid, and its nonce is its own
 
@@ -186,8 +187,8 @@ unfolding fresh
 no-encrypted-special s = true≢false (s .specials-plain 1 refl)
 
 no-flags-4 : Sound (holding (encryptedNode 1 4 (zeros 8) (nonce 1))) → ⊥
-unfolding fresh isValid isPair
-no-flags-4 s = false≢true (s .contexts-valid 1 refl)
+unfolding fresh
+no-flags-4 s = omega (arith, s .contexts-valid 1 refl .flags)
 
 no-short-context-descriptor : Sound (holding (encryptedNode 1 0 (zeros 7) (nonce 1))) → ⊥
 unfolding fresh zeros
@@ -204,8 +205,8 @@ no-nonce-twice s = omega (arith, s .nonces-apart 1 2 refl refl refl)
 -- ---- a name in a plain directory is a plain name, and in an encrypted one it has the padded length of some plain name
 
 no-slash : Sound (listing (entryIn 0 1 (97 ∷ 47 ∷ []))) → ⊥
-unfolding fresh nameCheck isBadName isDotName firstAt same _⇒_ _>>_
-no-slash s = false≢true (ap isFine (s .plain-names 0 refl refl))
+unfolding fresh
+no-slash s = s .plain-names 0 refl refl .no-slash 1 (omega arith) refl
 
 no-name-of-20-within : Sound (within (encryptedNode 2 3 (zeros 8) (nonce 2)) (zeros 20)) → ⊥
 unfolding fresh zeros paddedLength rounded

@@ -16,8 +16,8 @@ use Rattle.fscrypt.specs.Names.{nameCheck}
 use Rattle.volume.specs.Volume.{keySlots, inodeSlots, entrySlots, nameOf}
 use Rattle.volume.specs.DirectoryNames.{stored, isUnreadable}
 use Rattle.volume.specs.Lookup.{keySlotOf, freeKeySlot, lacksKey, inodeAt, isFree, isDirectory, freeInode, isBorne, entryAt, isVacant, freeEntry, entryNamed, isTaken, hasEntries, isUnderItself}
-use Rattle.volume.specs.declared.InodeNumber.{InodeNumber}
-use Rattle.volume.specs.declared.EntryNumber.{EntryNumber}
+use Rattle.ids.specs.declared.InodeNumber.{InodeNumber}
+use Rattle.ids.specs.declared.EntryNumber.{EntryNumber}
 use Rattle.volume.specs.declared.Inode.{Inode}
 use Rattle.volume.specs.declared.Volume.{Volume}
 

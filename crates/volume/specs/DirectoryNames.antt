@@ -10,11 +10,10 @@ use Rattle.fscrypt.specs.Names.{encrypted, readPadded, nameBytes}
 use Rattle.fscrypt.specs.Encoded.{encoded}
 use Rattle.fscrypt.specs.declared.NameRead.{NameRead}
 use Rattle.volume.specs.Lookup.{masterKey, descriptorOf, keyPresent}
-use Rattle.volume.specs.declared.EntryNumber.{EntryNumber}
+use Rattle.ids.specs.declared.EntryNumber.{EntryNumber}
 use Rattle.volume.specs.declared.Inode.{Inode}
 use Rattle.volume.specs.declared.Volume.{Volume}
-use Rattle.volume.specs.declared.Form.{Form}
-use Rattle.volume.specs.declared.Form.the-variants.{Plain, Decrypted, Encoded}
+use Rattle.volume.specs.Request.{Form, Plain, Decrypted, Encoded}
 
 module _ (C : Cipher) where
   -- the derived key of an inode

@@ -8,7 +8,7 @@ use lib.Dec.{eqb}
 use Rattle.lists.specs.Bytes.{Bytes}
 use Rattle.volume.specs.Request.{Request, addKey, removeKey, setPolicy, getPolicy, create, link, rename, exchange, remove, find, show, seal, unseal, Answer, refused, done, created, at, policyIs, shown}
 use Rattle.volume.specs.Run.{Moment}
-use Rattle.volume.specs.declared.EntryNumber.{EntryNumber}
+use Rattle.ids.specs.declared.EntryNumber.{EntryNumber}
 
 -- for each entry the name that it was given, if it was given one
 abbrev pub Names : Type 0

@@ -7,11 +7,10 @@ use Rattle.lists.specs.Bytes.{Bytes}
 use Rattle.errno.specs.Refusals.{number}
 use Rattle.errno.specs.declared.Errno.{Errno}
 use Rattle.fscrypt.specs.Cipher.{Cipher}
-use Rattle.volume.specs.Request.{Request, addKey, getPolicy, find, show, seal, unseal, refused, shown, outcome}
+use Rattle.volume.specs.Request.{Request, addKey, getPolicy, find, show, seal, unseal, refused, shown, outcome, ShownEntry}
 use Rattle.volume.specs.Step.{step}
-use Rattle.volume.specs.declared.InodeNumber.{InodeNumber}
-use Rattle.volume.specs.declared.EntryNumber.{EntryNumber}
-use Rattle.volume.specs.declared.ShownEntry.{ShownEntry}
+use Rattle.ids.specs.declared.InodeNumber.{InodeNumber}
+use Rattle.ids.specs.declared.EntryNumber.{EntryNumber}
 use Rattle.volume.specs.declared.Volume.{Volume}
 
 -- the request is refused with this number

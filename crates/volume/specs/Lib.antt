@@ -10,6 +10,8 @@ pub mod Run
 pub mod Sound
 pub mod Bytewise
 pub mod PolicyClause
+pub mod Meanings
+pub mod DoneWhen
 pub mod SealedOpens
 pub mod ShownApart
 pub mod GivenNames

@@ -8,8 +8,8 @@ use lib.Dec.{eqb, ltb}
 use Rattle.lists.specs.Bytes.{Bytes, same, firstAt}
 use Rattle.policy.specs.Policies.{isMasterKeySize}
 use Rattle.volume.specs.Volume.{inodeSlots, entrySlots, noKey, noInode, noEntry, keyBytes, nameOf}
-use Rattle.volume.specs.declared.InodeNumber.{InodeNumber}
-use Rattle.volume.specs.declared.EntryNumber.{EntryNumber}
+use Rattle.ids.specs.declared.InodeNumber.{InodeNumber}
+use Rattle.ids.specs.declared.EntryNumber.{EntryNumber}
 use Rattle.volume.specs.declared.Key.{Key}
 use Rattle.volume.specs.declared.Inode.{Inode}
 use Rattle.volume.specs.declared.Entry.{Entry}

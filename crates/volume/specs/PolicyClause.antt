@@ -16,8 +16,8 @@ use Rattle.volume.specs.Checks.{directoryCheck, policyRefusal}
 use Rattle.volume.specs.Step.{step}
 use Rattle.volume.specs.Run.{Moment, run}
 use Rattle.volume.specs.Sound.{BearsPolicy, Used, dirOf, nodeOf, Sound}
-use Rattle.volume.specs.declared.InodeNumber.{InodeNumber}
-use Rattle.volume.specs.declared.EntryNumber.{EntryNumber}
+use Rattle.ids.specs.declared.InodeNumber.{InodeNumber}
+use Rattle.ids.specs.declared.EntryNumber.{EntryNumber}
 use Rattle.volume.specs.declared.Inode.{Inode}
 use Rattle.volume.specs.declared.Volume.{Volume}
 

@@ -6,10 +6,12 @@ use mathlib.Core.List.{List, [], _∷_, List·Memᴰ}
 use lib.ListN.{length}
 use Rattle.lists.specs.Bytes.{Bytes, ByteList}
 use Rattle.errno.specs.Refusals.{number}
-use Rattle.volume.specs.declared.InodeNumber.{InodeNumber}
-use Rattle.volume.specs.declared.EntryNumber.{EntryNumber}
+use Rattle.ids.specs.declared.InodeNumber.{InodeNumber}
+use Rattle.ids.specs.declared.EntryNumber.{EntryNumber}
 use Rattle.volume.specs.declared.Volume.{Volume}
-use Rattle.volume.specs.declared.ShownEntry.{ShownEntry}
+use Rattle.volume.specs.declared.Form.{Form as AnsweredForm}
+use Rattle.volume.specs.declared.Form.the-variants.{Plain as IsPlain, Decrypted as IsDecrypted, Encoded as IsEncoded}
+use Rattle.volume.specs.declared.ShownEntry.{ShownEntry as AnsweredEntry}
 use Rattle.volume.specs.declared.Reply.{Reply}
 use Rattle.volume.specs.declared.Reply.the-variants.{Done, Refused as NotDone}
 use Rattle.volume.specs.declared.CreateAnswer.{CreateAnswer}
@@ -77,8 +79,19 @@ thirteen i p a b kind number d x s =
 
 -- ---- answers
 
--- "Create answers the new thing and place, link the new place, find the place, get policy the 12 bytes; show answers parent, thing, kind, form, length and
--- name" (the name in the lent buffer). "All others answer done". A refusal is its number alone.
+-- "the form being plain, read with the key, or shown without it"
+pub data Form : Type 0 where
+  Plain Decrypted Encoded : Form
+
+-- "show answers parent, thing, kind, form, length and name" (the name in the lent buffer)
+pub record ShownEntry : Type 0 where
+  pub parent : InodeNumber
+  pub inode : InodeNumber
+  pub kind : ℕ
+  pub form : Form
+  pub len : ℕ
+
+-- "Create answers the new thing and place, link the new place, find the place, get policy the 12 bytes"; "All others answer done". A refusal is its number alone.
 pub data Answer : Type 0 where
   refused : (number : ℕ) → Answer
   done : Answer
@@ -114,6 +127,15 @@ abbrev pub policyAnswered : Reply → Bytes → Answer
 policyAnswered Done p = policyIs p
 policyAnswered (NotDone e) p = refused (number e)
 
+-- plain; read with the key; shown without it
+abbrev pub formAnswered : AnsweredForm → Form
+formAnswered IsPlain = Plain
+formAnswered IsDecrypted = Decrypted
+formAnswered IsEncoded = Encoded
+
+abbrev pub entryShown : AnsweredEntry → ShownEntry
+entryShown s = record { parent = s .parent; inode = s .inode; kind = s .kind; form = formAnswered (s .form); len = s .len }
+
 abbrev pub showAnswered : ShowAnswer → Answer
-showAnswered (Shown s) = shown s
+showAnswered (Shown s) = shown (entryShown s)
 showAnswered (NotShown e) = refused (number e)

@@ -8,17 +8,15 @@ use mathlib.Core.List.{List, List·Memᴰ}
 use lib.ListN.{length, take}
 use Rattle.lists.specs.Bytes.{Bytes, ByteList}
 use Rattle.fscrypt.specs.Cipher.{Cipher}
-use Rattle.volume.specs.Request.{Request, Typed, AllTyped, create, link, rename, show, seal, unseal, done, created, at, shown, outcome}
+use Rattle.volume.specs.Request.{Request, Typed, AllTyped, create, link, rename, show, seal, unseal, done, created, at, shown, outcome, ShownEntry, Encoded}
 use Rattle.volume.specs.Lookup.{keyOf, descriptorOf, inodeAt, isFree, entryAt}
 use Rattle.volume.specs.Step.{step}
 use Rattle.volume.specs.Run.{Moment, runFrom}
 use Rattle.volume.specs.Sound.{Sound, dirOf}
 use Rattle.volume.specs.Bytewise.{Bytewise}
-use Rattle.volume.specs.declared.InodeNumber.{InodeNumber}
-use Rattle.volume.specs.declared.EntryNumber.{EntryNumber}
+use Rattle.ids.specs.declared.InodeNumber.{InodeNumber}
+use Rattle.ids.specs.declared.EntryNumber.{EntryNumber}
 use Rattle.volume.specs.declared.Inode.{Inode}
-use Rattle.volume.specs.declared.ShownEntry.{ShownEntry}
-use Rattle.volume.specs.declared.Form.the-variants.{Encoded}
 use Rattle.volume.specs.declared.Volume.{Volume}
 
 -- show answers this name for this entry, plain or decrypted, with any buffer that has room

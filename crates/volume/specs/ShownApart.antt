@@ -6,12 +6,10 @@ use mathlib.Core.Logic.{_≢_}
 use lib.ListN.{length, take, getD}
 use Rattle.lists.specs.Bytes.{Bytes}
 use Rattle.fscrypt.specs.Cipher.{Cipher}
-use Rattle.volume.specs.Request.{show, shown}
+use Rattle.volume.specs.Request.{show, shown, ShownEntry, Encoded}
 use Rattle.volume.specs.Step.{step}
-use Rattle.volume.specs.declared.InodeNumber.{InodeNumber}
-use Rattle.volume.specs.declared.EntryNumber.{EntryNumber}
-use Rattle.volume.specs.declared.ShownEntry.{ShownEntry}
-use Rattle.volume.specs.declared.Form.the-variants.{Encoded}
+use Rattle.ids.specs.declared.InodeNumber.{InodeNumber}
+use Rattle.ids.specs.declared.EntryNumber.{EntryNumber}
 use Rattle.volume.specs.declared.Volume.{Volume}
 
 -- with some buffer show answers, without the key, that this entry stands in this directory under this name

@@ -2,22 +2,22 @@
 -- Sentences in quotation marks are document 01's, in its words. Assumes nothing.
 use Prim.Native.Nat.{ℕ, _-_, _≤_, _<_}
 use mathlib.Core.Path.{_≡_}
-use mathlib.Core.Logic.{_≢_}
+use mathlib.Core.Logic.{_≢_, _⊎_}
 use mathlib.Core.Bool.{true, false}
 use mathlib.Core.List.{_++_}
 use lib.ListN.{length, getD}
 use Rattle.lists.specs.Bytes.{zeros}
-use Rattle.errno.specs.declared.Checked.the-variants.{Fine}
-use Rattle.policy.specs.Policies.{isValid, samePolicy, noContext}
-use Rattle.fscrypt.specs.Names.{nameCheck, paddedLength}
-use Rattle.volume.specs.Volume.{keySlots, inodeSlots, entrySlots, noKey, noInode, noEntry, keyBytes, nameOf}
-use Rattle.volume.specs.Lookup.{isFreeKey, inodeAt, isFree, entryAt, isVacant, climbFrom}
-use Rattle.volume.specs.Checks.{isBadKeyLength}
+use Rattle.policy.specs.Policies.{noContext}
+use Rattle.policy.specs.Meanings.{ValidPolicy}
+use Rattle.fscrypt.specs.Names.{paddedLength}
+use Rattle.fscrypt.specs.Meanings.{PlainName}
+use Rattle.volume.specs.Volume.{keySlots, inodeSlots, entrySlots, noKey, noInode, noEntry, rootNumber, keyBytes, nameOf}
+use Rattle.volume.specs.Lookup.{isFreeKey, inodeAt, isFree, entryAt, isVacant}
 use Rattle.volume.specs.declared.Key.{Key}
 use Rattle.volume.specs.declared.Inode.{Inode}
 use Rattle.volume.specs.declared.Entry.{Entry}
 use Rattle.volume.specs.declared.Volume.{Volume}
-use Rattle.volume.specs.declared.Met.the-variants.{Root}
+use Rattle.ids.specs.declared.InodeNumber.{InodeNumber}
 
 -- ---- what stands where
 
@@ -41,10 +41,29 @@ dirOf v e = inodeAt v ((slotAt v e) .parent)
 abbrev pub nodeOf : Volume → ℕ → Inode
 nodeOf v e = inodeAt v ((slotAt v e) .inode)
 
+-- an entry of this number stands in this directory
+pub record EntryIn (v : Volume) (p : InodeNumber) (e : ℕ) : Type 0 where
+  pub in-use : (slotAt v e) .len ≢ 0
+  pub parent : (slotAt v e) .parent ≡ p
+
+-- an entry of this number holds this inode
+pub record EntryOf (v : Volume) (i : InodeNumber) (e : ℕ) : Type 0 where
+  pub in-use : (slotAt v e) .len ≢ 0
+  pub inode : (slotAt v e) .inode ≡ i
+
+-- an inode stands below a directory, entry by entry: in it, or in a directory that stands below it
+pub data Below (v : Volume) : InodeNumber → InodeNumber → Type 0 where
+  inside : {d i : InodeNumber} (e : ℕ) → EntryIn v d e → EntryOf v i e → Below v d i
+  deeper : {d m i : InodeNumber} (e : ℕ) → Below v d m → EntryIn v m e → EntryOf v i e → Below v d i
+
+-- "a master key of 16, 32, 48 or 64 bytes"
+abbrev pub KeyLength : ℕ → Type 0
+KeyLength n = (n ≡ 16) ⊎ ((n ≡ 32) ⊎ ((n ≡ 48) ⊎ (n ≡ 64)))
+
 -- an inode bears the policy of a directory
 pub record BearsPolicy (dir node : Inode) : Type 0 where
   pub has-context : node .encrypted ≡ true
-  pub same : samePolicy (node .context .policy) (dir .context .policy) ≡ true
+  pub same : node .context .policy ≡ dir .context .policy
 
 -- a directory may hold an inode: if it is encrypted and the inode is a regular file, directory or symlink, the inode bears its policy
 abbrev pub MayHold : Inode → Inode → Type 0
@@ -58,7 +77,7 @@ pub record Sound (v : Volume) : Type 0 where
   pub inode-slots : length (v .inodes) ≡ inodeSlots
   pub entry-slots : length (v .entries) ≡ entrySlots
   -- "each an 8-byte descriptor and a master key of 16, 32, 48 or 64 bytes"; a descriptor is on the keyring once
-  pub key-lengths : (k : ℕ) → isFreeKey (keyAt v k) ≡ false → isBadKeyLength ((keyAt v k) .len) ≡ false
+  pub key-lengths : (k : ℕ) → isFreeKey (keyAt v k) ≡ false → KeyLength ((keyAt v k) .len)
   pub key-sizes : (k : ℕ) → length (keyBytes (keyAt v k)) ≡ (keyAt v k) .len
   pub descriptors : (k : ℕ) → length ((keyAt v k) .descriptor) ≡ 8
   pub descriptors-apart : (j k : ℕ) → isFreeKey (keyAt v j) ≡ false → isFreeKey (keyAt v k) ≡ false → (keyAt v j) .descriptor ≡ (keyAt v k) .descriptor → j ≡ k
@@ -76,20 +95,20 @@ pub record Sound (v : Volume) : Type 0 where
   pub root-unheld : (e : ℕ) → Used v e → (slotAt v e) .inode .0 ≢ 0
   pub has-entry : (i : ℕ) → i ≢ 0 → isFree (nodeAt v i) ≡ false → (e : ℕ) × Used v e × ((slotAt v e) .inode .0 ≡ i)
   pub one-entry : (a b : ℕ) → Used v a → Used v b → (slotAt v a) .inode ≡ (slotAt v b) .inode → (nodeOf v a) .kind ≡ 1 → a ≡ b
-  -- every directory is reachable: the climb from it meets the root, within its budget
-  pub reachable : (i : ℕ) → (nodeAt v i) .kind ≡ 1 → climbFrom v (record { 0 = inodeSlots }) inodeSlots (record { 0 = i }) ≡ Root
+  -- every directory is the root or stands below it
+  pub reachable : (i : InodeNumber) → (inodeAt v i) .kind ≡ 1 → (i ≡ rootNumber) ⊎ Below v rootNumber i
   -- stored names within a directory are distinct
   pub names-apart : (a b : ℕ) → Used v a → Used v b → (slotAt v a) .parent ≡ (slotAt v b) .parent → nameOf (slotAt v a) ≡ nameOf (slotAt v b) → a ≡ b
   -- demand 2: "at no time does one stand there"
   pub policies : (e : ℕ) → Used v e → MayHold (dirOf v e) (nodeOf v e)
   -- "a special child gets no context"; a context's policy is valid, and its nonce is its own
   pub specials-plain : (i : ℕ) → (nodeAt v i) .kind ≡ 4 → (nodeAt v i) .encrypted ≡ false
-  pub contexts-valid : (i : ℕ) → (nodeAt v i) .encrypted ≡ true → isValid ((nodeAt v i) .context .policy) ≡ true
+  pub contexts-valid : (i : ℕ) → (nodeAt v i) .encrypted ≡ true → ValidPolicy ((nodeAt v i) .context .policy)
   pub context-descriptors : (i : ℕ) → length ((nodeAt v i) .context .policy .descriptor) ≡ 8
   pub context-nonces : (i : ℕ) → length ((nodeAt v i) .context .nonce) ≡ 16
   pub nonces-apart : (i j : ℕ) → (nodeAt v i) .encrypted ≡ true → (nodeAt v j) .encrypted ≡ true → (nodeAt v i) .context .nonce ≡ (nodeAt v j) .context .nonce → i ≡ j
   -- a name in a plain directory is a plain name, and in an encrypted one it has the padded length of some plain name
-  pub plain-names : (e : ℕ) → Used v e → (dirOf v e) .encrypted ≡ false → nameCheck (nameOf (slotAt v e)) ≡ Fine
+  pub plain-names : (e : ℕ) → Used v e → (dirOf v e) .encrypted ≡ false → PlainName (nameOf (slotAt v e))
   pub encrypted-lengths : (e : ℕ) → Used v e → (dirOf v e) .encrypted ≡ true
       → (n : ℕ) × (0 < n) × (n ≤ 255) × (length (nameOf (slotAt v e)) ≡ paddedLength ((dirOf v e) .context .policy .flags) n)
   -- "A freed record is all zeros, and so are a record's unused bytes."

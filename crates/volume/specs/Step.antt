@@ -15,8 +15,8 @@ use Rattle.volume.specs.Request.{Request, addKey, removeKey, setPolicy, 
 use Rattle.volume.specs.Lookup.{keySlotOf, freeKeySlot, inodeAt, freeInode, entryAt, freeEntry, entryNamed, isHeld}
 use Rattle.volume.specs.DirectoryNames.{derivedKey, stored, shownName, formIn}
 use Rattle.volume.specs.Checks.{isNonceNeeded, addKeyCheck, removeKeyCheck, setPolicyCheck, getPolicyCheck, createCheck, linkCheck, renameCheck, exchangeCheck, removeCheck, findCheck, showCheck, blockCheck}
-use Rattle.volume.specs.declared.InodeNumber.{InodeNumber}
-use Rattle.volume.specs.declared.EntryNumber.{EntryNumber}
+use Rattle.ids.specs.declared.InodeNumber.{InodeNumber}
+use Rattle.ids.specs.declared.EntryNumber.{EntryNumber}
 use Rattle.volume.specs.declared.Key.{Key}
 use Rattle.volume.specs.declared.Inode.{Inode}
 use Rattle.volume.specs.declared.Entry.{Entry}

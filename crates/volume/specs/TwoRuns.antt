@@ -12,17 +12,14 @@ use Rattle.lists.specs.Bytes.{Bytes, zeros}
 use Rattle.errno.specs.Refusals.{number}
 use Rattle.errno.specs.declared.Errno.the-variants.{EUCLEAN}
 use Rattle.fscrypt.specs.Cipher.{Cipher}
-use Rattle.volume.specs.Request.{Request, AllTyped, addKey, removeKey, setPolicy, getPolicy, create, link, rename, exchange, remove, find, show, seal, unseal, Answer, refused, done, created, at, policyIs, shown}
+use Rattle.volume.specs.Request.{Request, AllTyped, addKey, removeKey, setPolicy, getPolicy, create, link, rename, exchange, remove, find, show, seal, unseal, Answer, refused, done, created, at, policyIs, shown, ShownEntry, Form, Plain, Decrypted, Encoded}
 use Rattle.volume.specs.Lookup.{inodeAt}
 use Rattle.volume.specs.Run.{Moment, run}
 use Rattle.volume.specs.GivenNames.{given}
-use Rattle.volume.specs.declared.EntryNumber.{EntryNumber}
+use Rattle.ids.specs.declared.EntryNumber.{EntryNumber}
 use Rattle.volume.specs.declared.Key.{Key}
 use Rattle.volume.specs.declared.Entry.{Entry}
 use Rattle.volume.specs.declared.Volume.{Volume}
-use Rattle.volume.specs.declared.ShownEntry.{ShownEntry}
-use Rattle.volume.specs.declared.Form.{Form}
-use Rattle.volume.specs.declared.Form.the-variants.{Plain, Decrypted, Encoded}
 
 -- ---- the two lists
 

@@ -7,7 +7,7 @@ use lib.ListN.{replicate, length, take, set}
 use Rattle.lists.specs.Bytes.{Bytes, zeros}
 use Rattle.policy.specs.Policies.{noContext}
 use Rattle.policy.specs.declared.Policy.{Policy}
-use Rattle.volume.specs.declared.InodeNumber.{InodeNumber}
+use Rattle.ids.specs.declared.InodeNumber.{InodeNumber}
 use Rattle.volume.specs.declared.Key.{Key}
 use Rattle.volume.specs.declared.Inode.{Inode}
 use Rattle.volume.specs.declared.Entry.{Entry}

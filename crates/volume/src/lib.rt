@@ -1,12 +1,8 @@
 // The types of a volume (document 01's shelf) and of the answers. What each request does is said in specs/.
 use errno::Errno;
+use ids::EntryNumber;
+use ids::InodeNumber;
 use policy::Context;
-
-// An inode's number (document 01: thing). Numbers are wide: one that names nothing is refused in its turn.
-pub struct InodeNumber(pub u64);
-
-// A directory entry's number (document 01: place).
-pub struct EntryNumber(pub u64);
 
 // A slot of the keyring (document 01: ring): length 0 is a free one. The key is the first len bytes.
 pub struct Key {
