@@ -10,7 +10,8 @@ pub fn is_digit(b: u8) -> bool
     ranges::is_within(b, b'0', b'9')
 }
 
-fn wide(b: u8) -> u64
+// A byte as a number that `put_decimal` prints.
+pub fn wide(b: u8) -> u64
     ensures { λ r. ⌜ r ≡ b ⌝ }
 {
     b as u64

@@ -19,10 +19,11 @@ use Rattle.volume.specs.declared.Volume.{Volume}
 use Rattle.script.specs.Cutting.{isNewline, hasNewline, beforeNewline, upToNewline, keptOn, kept}
 use Rattle.script.proofs.Keeping.{keptOn-length, keptOn-short, keptOn-append}
 use Rattle.session.specs.Answers.{Said, saying, malformed}
-use Rattle.session.specs.Lines.{withoutReturn, isSkipped, ended, answered, Replies}
-use Rattle.session.specs.Input.{Session, session, begun, ending, fed, saidAt, fedAll, saidAll, transcript, Held, Begun, Feeds, Says, Ends}
-use Rattle.session.specs.declared.Response.{Response}
-use Rattle.session.proofs.Answering.{no-return-none, overlong, skips, same-answer}
+use Rattle.session.specs.Lines.{withoutReturn, isSkipped, ended, answered, HasRoom, lineOutcome, answeredIn}
+use Rattle.session.specs.Input.{Session, session, begun, ending, fed, saidAt, fedAll, saidAll, transcript, Held, Begun, Feeds, Says, Ends, Ran}
+use Rattle.session.specs.declared.LineAnswer.{LineAnswer}
+use Rattle.session.proofs.Answering.{no-return-none, overlong, skips}
+use Rattle.session.proofs.Room.{replied-in}
 use Rattle.session.proofs.Skipping.{skipped-none, skipped-kept}
 
 withoutReturn-least : (l : Bytes) → length l - 1 ≤ length (withoutReturn l)
@@ -132,10 +133,12 @@ module _ (s : Session) (c : Bytes) where
 
 -- ---- the buffer
 
-pub held-ends : (buffer : Bytes) (v : Volume) (used : ℕ) (b out : Bytes) (r : Response) → 131074 ≤ length buffer → Replies b out r (answered v (take used buffer)) → Ends buffer v used out r
-held-ends buffer v used b out r h a s e =
-    let x = same-answer b out (r .len) (r .volume) _ _ a (same (e .0) (e .1) ∙ answered-kept (s .volume) (length buffer) h (s .line)) in
-    (x .0, ap (take (r .len)) (x .2) ∙ laid-read b _ (r .len) (x .1))
+pub held-ends : (buffer : Bytes) (v : Volume) (used : ℕ) (b c beside out : Bytes) (r : LineAnswer) → 131074 ≤ length buffer → HasRoom (length (take used buffer)) (length b) (length c)
+    → lineOutcome r beside out ≡ answeredIn v (take used buffer) b c → Ends buffer v used out r
+held-ends buffer v used b c beside out r h g a s e =
+    let x = replied-in v (take used buffer) b c beside out r g a in
+    let k : answered v (take used buffer) ≡ ending s = same (e .0) (e .1) ∙ answered-kept (s .volume) (length buffer) h (s .line) in
+    (x .0 ∙ ap (λ (t : Said). t .volume) k, ap (take (r .len)) (x .2) ∙ laid-read c _ (r .len) (x .1) ∙ ap (λ (t : Said). t .said) k)
   where
     same : {v w : Volume} {k l : Bytes} → v ≡ w → k ≡ l → answered v k ≡ answered w l
     same e f = cc
@@ -153,7 +156,7 @@ module _ (before after : Bytes) (v : Volume) (m n : ℕ) (c : Bytes) (h : length
     says-on s k = rw f (sym (said-on s c g))
 
   -- a newline, and what is said to the line
-  module _ (t : ℕ) (f : t ≡ upToNewline c) (g : hasNewline c ≡ true) (out : Bytes) (r : Response) (a : Ends after v n out r) where
+  module _ (t : ℕ) (f : t ≡ upToNewline c) (g : hasNewline c ≡ true) (out : Bytes) (r : LineAnswer) (a : Ends after v n out r) where
     pub feeds-end : Feeds before v m (take t c) after (r .volume) 0
     unfolding keptOn
     feeds-end s k = rw (f, fed-end s c g) (a (lined s c) (cut-held s k) .0, refl)
@@ -181,6 +184,9 @@ begun-none b v h = ([], (h, refl))
 
 pub begun-more : (b : Bytes) (v : Volume) (m : ℕ) (c after : Bytes) (w : Volume) (n : ℕ) → Begun b v m → Feeds b v m c after w n → Begun after w n
 begun-more b v m c after w n h f = (h .0 ++ c, rw fedAll-append (f (fedAll begun (h .0)) (h .1)))
+
+pub begun-ran : (b : Bytes) (v : Volume) (m : ℕ) (out : Bytes) (r : LineAnswer) → Begun b v m → Ends b v m out r → Ran (r .volume)
+begun-ran b v m out r h e = (h .0, e (fedAll begun (h .0)) (h .1) .0)
 
 -- where the last line has its newline, nothing is said at the end
 pub transcript-whole : (t : Bytes) → fedAll begun t .line ≡ [] → transcript t ≡ saidAll begun t

@@ -13,9 +13,7 @@ use Rattle.lists.specs.Bytes.{Bytes}
 use Rattle.errno.specs.Refusals.{number}
 use Rattle.errno.specs.declared.Errno.{Errno}
 use Rattle.errno.specs.declared.Errno.the-variants.{EPERM, ENOENT, EEXIST, ENOTDIR, EINVAL, ENOSPC, ERANGE, ENAMETOOLONG, ENOTEMPTY, ENODATA, ENOTUNIQ, EUCLEAN, ENOKEY}
-use Rattle.volume.specs.declared.Form.{Form}
-use Rattle.volume.specs.declared.Form.the-variants.{Plain, Decrypted, Encoded}
-use Rattle.volume.specs.declared.ShownEntry.{ShownEntry}
+use Rattle.volume.specs.Request.{Form, Plain, Decrypted, Encoded, ShownEntry}
 use Rattle.script.proofs.Digits.{decimal-length}
 use Rattle.script.proofs.Stores.{then-sets}
 use Rattle.script.specs.Strings.{nameText}

@@ -11,11 +11,8 @@ use Rattle.lists.specs.Bytes.{Bytes}
 use Rattle.script.specs.Text.{text}
 use Rattle.script.specs.Numbers.{decimal}
 use Rattle.script.specs.Strings.{toHex, nameText}
-use Rattle.volume.specs.Request.{Answer, refused, done, created, at, policyIs, shown, Outcome}
+use Rattle.volume.specs.Request.{Answer, refused, done, created, at, policyIs, shown, Outcome, Form, Plain, Decrypted, Encoded, ShownEntry}
 use Rattle.volume.specs.declared.Volume.{Volume}
-use Rattle.volume.specs.declared.Form.{Form}
-use Rattle.volume.specs.declared.Form.the-variants.{Plain, Decrypted, Encoded}
-use Rattle.volume.specs.declared.ShownEntry.{ShownEntry}
 
 -- Linux's name of a refusal's number
 unfoldable pub errnoName : ℕ → String

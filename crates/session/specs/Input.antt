@@ -10,7 +10,7 @@ use Rattle.volume.specs.declared.Volume.{Volume}
 use Rattle.script.specs.Cutting.{isNewline, kept}
 use Rattle.session.specs.Answers.{Said}
 use Rattle.session.specs.Lines.{answered}
-use Rattle.session.specs.declared.Response.{Response}
+use Rattle.session.specs.declared.LineAnswer.{LineAnswer}
 
 -- the volume, and the bytes so far of the line that has begun
 pub record Session : Type 0 where
@@ -75,5 +75,9 @@ abbrev pub Says : Bytes → Volume → ℕ → Bytes → Bytes → Type 0
 Says before v m t text = (s : Session) → Held before v m s → text ≡ saidAll s t
 
 -- what it says at the end of a line, and the volume then
-abbrev pub Ends : Bytes → Volume → ℕ → Bytes → Response → Type 0
+abbrev pub Ends : Bytes → Volume → ℕ → Bytes → LineAnswer → Type 0
 Ends before v m out r = (s : Session) → Held before v m s → (r .volume ≡ ending s .volume) × (take (r .len) out ≡ ending s .said)
+
+-- a volume at the end of some input
+abbrev pub Ran : Volume → Type 0
+Ran v = (t : Bytes) × (v ≡ ending (fedAll begun t) .volume)

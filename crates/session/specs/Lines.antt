@@ -1,7 +1,7 @@
 -- What is answered to a line, the request script's "Lines and words". Quotations are the request script's. Assumes nothing.
-use Prim.Native.Nat.{ℕ, _-_, _≤_}
+use Prim.Native.Nat.{ℕ, _+_, _*_, _-_, _≤_}
 use mathlib.Core.Path.{_≡_}
-use mathlib.Core.Bool.{Bool, true, false, cond, _||_}
+use mathlib.Core.Bool.{Bool, true, false, cond, _&&_, _||_}
 use mathlib.Core.List.{[], _++_}
 use lib.ListN.{length, getD, take}
 use lib.Dec.{eqb, leb, ltb}
@@ -10,8 +10,8 @@ use Rattle.fscrypt.specs.Cipher.{fscrypt}
 use Rattle.volume.specs.Request.{addKey, removeKey, setPolicy, getPolicy, create, link, rename, exchange, remove, find, show, seal, unseal}
 use Rattle.volume.specs.Step.{step}
 use Rattle.volume.specs.declared.Volume.{Volume}
-use Rattle.volume.specs.declared.InodeNumber.{InodeNumber}
-use Rattle.volume.specs.declared.EntryNumber.{EntryNumber}
+use Rattle.ids.specs.declared.InodeNumber.{InodeNumber}
+use Rattle.ids.specs.declared.EntryNumber.{EntryNumber}
 use Rattle.script.specs.Text.{text}
 use Rattle.script.specs.Words.{firstWord, afterWord}
 use Rattle.script.specs.Commands.{verbOf, shapeOf, readWords}
@@ -20,6 +20,7 @@ use Rattle.script.specs.declared.Verb.the-variants.{AddKey, RemoveKey, SetPolic
 use Rattle.script.specs.declared.Args.{Args}
 use Rattle.session.specs.Answers.{Said, saying, told, malformed, Written}
 use Rattle.session.specs.declared.Response.{Response}
+use Rattle.session.specs.declared.LineAnswer.{LineAnswer}
 
 abbrev pub inode : ℕ → InodeNumber
 inode n = record { 0 = n }
@@ -82,3 +83,34 @@ Replies before after r s = (r .volume ≡ s .volume) × (r .len ≡ length (s .s
 -- the same, with room for one byte more
 abbrev pub Responds : Bytes → Bytes → Response → Said → Type 0
 Responds before after r s = (r .volume ≡ s .volume) × Written before after (r .len) (s .said)
+
+-- ---- a line and any buffers
+
+-- the buffers lent have room for a line of so many bytes: one for the bytes that the line spells, and one for the answer
+abbrev pub HasRoom : ℕ → ℕ → ℕ → Type 0
+HasRoom line beside out = (line ≤ beside) × (1000 + 2 * line ≤ out)
+
+-- the same, as a test
+abbrev pub hasRoom : ℕ → ℕ → ℕ → Bool
+hasRoom line beside out = leb line beside && leb (1000 + 2 * line) out
+
+-- the answer to a line, and what the two buffers hold then
+pub record LineOutcome : Type 0 where
+  pub answer : LineAnswer
+  pub beside : Bytes
+  pub out : Bytes
+
+abbrev pub lineOutcome : LineAnswer → Bytes → Bytes → LineOutcome
+lineOutcome a beside out = record { answer = a; beside = beside; out = out }
+
+-- where there is room: what is said stands at the start of `out`, and as many bytes of `beside` as the line has are zeros; past these the two are as they were
+abbrev pub roomOutcome : Said → ℕ → Bytes → Bytes → LineOutcome
+roomOutcome s n beside out = lineOutcome (record { fits = true; len = length (s .said); volume = s .volume }) (laidOver beside (zeros n)) (laidOver out (s .said))
+
+-- where there is not: nothing is done
+abbrev pub noRoomOutcome : Volume → Bytes → Bytes → LineOutcome
+noRoomOutcome v beside out = lineOutcome (record { fits = false; len = 0; volume = v }) beside out
+
+unfoldable pub answeredIn : Volume → Bytes → Bytes → Bytes → LineOutcome
+answeredIn v line beside out =
+    cond (hasRoom (length line) (length beside) (length out)) (roomOutcome (answered v line) (length line) beside out) (noRoomOutcome v beside out)

@@ -1,5 +1,6 @@
 // Answers as text, at the start of a buffer. Each function returns how many bytes there are.
 use errno::Errno;
+use script::numbers;
 use script::output;
 use volume::CreateAnswer;
 use volume::EntryAnswer;
@@ -14,7 +15,7 @@ ghost use Prim.Native.Nat.{_+_, _*_, _≤_, min};
 ghost use lib.ListN.{length};
 ghost use lib.Seq.{sets};
 ghost use Rattle.errno.specs.Refusals.{number};
-ghost use Rattle.volume.specs.Request.{replied, createAnswered, entryAnswered, policyAnswered, showAnswered};
+ghost use Rattle.volume.specs.Request.{replied, createAnswered, entryAnswered, policyAnswered, showAnswered, formAnswered, entryShown};
 ghost use Rattle.script.specs.Text.{text};
 ghost use Rattle.script.specs.Numbers.{decimal};
 ghost use Rattle.script.specs.Strings.{toHex};
@@ -121,7 +122,7 @@ pub fn put_block(out: &mut [u8], a: Reply, block: &[u8]) -> usize
 
 fn put_form(out: &mut [u8], at: usize, f: Form) -> usize
     requires { ⌜ at + 9 ≤ length (now out) ⌝ }
-    ensures { λ r. ⌜ (r ≡ at + length (text (formName f))) × (now (out .exit) ≡ sets (now (out .entry)) at (text (formName f))) ⌝ }
+    ensures { λ r. ⌜ (r ≡ at + length (text (formName (formAnswered f)))) × (now (out .exit) ≡ sets (now (out .entry)) at (text (formName (formAnswered f)))) ⌝ }
 {
     match f {
         Form::Plain => output::put(out, at, b"plain"),
@@ -139,32 +140,26 @@ fn put_field(out: &mut [u8], at: usize, n: u64) -> usize
     output::put(out, a, b" ")
 }
 
-fn wide(b: u8) -> u64
-    ensures { λ r. ⌜ r ≡ b ⌝ }
-{
-    b as u64
-}
-
 fn put_head(out: &mut [u8], s: ShownEntry) -> usize
     requires { ⌜ 1000 ≤ length (now out) ⌝ }
-    ensures { λ r. ⌜ Written (now (out .entry)) (now (out .exit)) r (shownHead s) ⌝ }
+    ensures { λ r. ⌜ Written (now (out .entry)) (now (out .exit)) r (shownHead (entryShown s)) ⌝ }
 {
     let parent = s.parent;
     let inode = s.inode;
     let a = output::put(out, 0, b"ok ");
     let b = put_field(out, a, parent.0);
     let c = put_field(out, b, inode.0);
-    put_field(out, c, wide(s.kind))
+    put_field(out, c, numbers::wide(s.kind))
 }
 
 fn put_tail(out: &mut [u8], at: usize, s: ShownEntry, name: &[u8]) -> usize
     requires { ⌜ at + (40 + 2 * length (now name)) ≤ length (now out) ⌝ }
-    ensures { λ r. ⌜ (r ≡ at + length (shownTail s (now (name .entry)))) × (now (out .exit) ≡ sets (now (out .entry)) at (shownTail s (now (name .entry)))) ⌝ }
+    ensures { λ r. ⌜ (r ≡ at + length (shownTail (entryShown s) (now (name .entry)))) × (now (out .exit) ≡ sets (now (out .entry)) at (shownTail (entryShown s) (now (name .entry)))) ⌝ }
 {
     let form = s.form;
     let a = put_form(out, at, form);
     let b = output::put(out, a, b" ");
-    let c = put_field(out, b, wide(s.len));
+    let c = put_field(out, b, numbers::wide(s.len));
     output::put_name(out, c, name)
 }
 
@@ -186,7 +181,7 @@ fn least(a: usize, b: usize) -> usize
 // The name is at the buffer's start.
 fn put_shown_entry(out: &mut [u8], s: ShownEntry, buffer: &[u8]) -> usize
     requires { ⌜ 1000 ≤ length (now out) ⌝ }
-    ensures { λ r. ⌜ Written (now (out .entry)) (now (out .exit)) r (shownText s (now (buffer .entry))) ⌝ }
+    ensures { λ r. ⌜ Written (now (out .entry)) (now (out .exit)) r (shownText (entryShown s) (now (buffer .entry))) ⌝ }
 {
     let n = least(count(s.len), buffer.len());
     let at = put_head(out, s);

@@ -1,12 +1,12 @@
 // Each request, made of a line's words, and its answer as text.
 use crate::Response;
 use crate::answers;
+use ids::EntryNumber;
+use ids::InodeNumber;
 use script::Args;
 use script::Verb;
 use script::output;
 use volume::Changed;
-use volume::EntryNumber;
-use volume::InodeNumber;
 use volume::Volume;
 ghost use mathlib.Core.Path.{_≡_};
 ghost use mathlib.Core.Bool.{false};

@@ -1,5 +1,5 @@
 // A script read from a file descriptor, line by line; each answer is written to standard output as soon as its line has come.
-use crate::Response;
+use crate::LineAnswer;
 use crate::lines;
 use libc::STDOUT_FILENO;
 use script::cutting;
@@ -8,8 +8,7 @@ ghost use mathlib.Core.Path.{_≡_};
 ghost use Prim.Native.Nat.{_≤_, _<_};
 ghost use lib.ListN.{length, take};
 ghost use Rattle.script.specs.Cutting.{upToNewline};
-ghost use Rattle.session.specs.Input.{Room, RoomFor, Begun, Feeds, Says, Ends};
-ghost use Rattle.io.specs.Counts.{Counts};
+ghost use Rattle.session.specs.Input.{Room, RoomFor, Begun, Feeds, Says, Ends, Ran};
 
 // A line of 131,072 bytes, its carriage return, and one byte more, so that a line that was cut is over the limit.
 const LINE_ROOM: usize = 131074;
@@ -44,7 +43,7 @@ fn out_room() -> [u8; OUT_ROOM]
 }
 
 // Answers the line that the first `used` bytes are kept of.
-fn answer_kept(v: Volume, line: &[u8], used: usize, beside: &mut [u8], out: &mut [u8]) -> Response
+fn answer_kept(v: Volume, line: &[u8], used: usize, beside: &mut [u8], out: &mut [u8]) -> LineAnswer
     requires { ⌜ RoomFor used (now line) (now beside) (now out) ⌝ }
     ensures { λ r. ⌜ (r .len ≤ length (now (out .entry))) × Ends (now (line .entry)) v used (now (out .exit)) r ⌝ }
 {
@@ -120,16 +119,8 @@ fn take_chunk(
     p
 }
 
-// Reads once, and returns how many bytes came: none at the end of the input, or where the read fails.
-fn read_some(fd: i32, chunk: &mut [u8]) -> usize
-    ensures { λ r. ⌜ Counts r (now (chunk .exit)) ⌝ }
-{
-    let got = libc::read(fd, chunk);
-    io::count(got, chunk)
-}
-
-// Answers the lines that newlines end. A proved loop has to end, and nothing says that the input does: so the loop counts its turns down, from a number
-// that no run uses up. The session is one of some bytes, on a fresh volume; that they are those that came is to be read here.
+// Answers the lines that newlines end, until no byte comes. A proved loop has to end, and nothing says that the input does: so the loop counts its turns
+// down, from a number that no run uses up. The session is one of some bytes, on a fresh volume; that they are those that came is to be read here.
 fn take_all(
     fd: i32,
     line: &mut [u8],
@@ -146,7 +137,8 @@ fn take_all(
     };
     let mut turns = u64::MAX;
     while 0 < turns {
-        let n = read_some(fd, chunk);
+        let got = libc::read(fd, chunk);
+        let n = io::count(got, chunk);
         if n == 0 {
             return p;
         }
@@ -156,8 +148,17 @@ fn take_all(
     p
 }
 
-// Runs a whole script on a fresh volume; the last line may lack its newline.
-pub fn run(fd: i32) {
+// Runs a whole script on a fresh volume, and returns the volume at its end; the last line may lack its newline.
+//
+// Proved: the volume is the one that specs/Input.antt has at the end of some input; and each text that `say` is given is what that file says to the bytes
+// taken, in their order and however they come in chunks (`next_answer`: Says, Feeds; `answer_kept`: Ends; `take_all`: Begun).
+// Not proved, but to be read in `take_all`, `take_chunk` and here: that these bytes are those that `read` delivered, all of them, and that each text is
+// written, once and in order. The contracts of `libc::read` and `libc::write` are assumed, and say only how many bytes were moved at most, not which.
+// A read that fails, also by a signal, counts as the end of the input. A write that fails is not noticed: `io::write_all` stops there and answers false,
+// which `say` drops, and the script runs on. After 2^64 - 1 reads no more input is taken. No theorem bounds the stack: the buffers here alone are 590,884 bytes.
+pub fn run(fd: i32) -> Volume
+    ensures { λ r. ⌜ Ran r ⌝ }
+{
     let mut line = line_room();
     let mut chunk = io::large_buffer();
     let mut beside = line_room();
@@ -166,4 +167,5 @@ pub fn run(fd: i32) {
     let v = p.volume;
     let r = answer_kept(v, &line, p.used, &mut beside, &mut out);
     say(&out, r.len);
+    r.volume
 }

@@ -1,4 +1,5 @@
 // A line of a request script, and its answer.
+use crate::LineAnswer;
 use crate::Response;
 use crate::calls;
 use script::Args;
@@ -11,7 +12,9 @@ use volume::Volume;
 ghost use mathlib.Core.Path.{_≡_};
 ghost use Prim.Native.Nat.{_+_, _*_, _≤_};
 ghost use lib.ListN.{length, take};
-ghost use Rattle.session.specs.Lines.{withoutReturn, isSkipped, directed, commanded, answered, Responds, Replies};
+ghost use Rattle.io.specs.Counts.{Counts};
+ghost use Rattle.lists.specs.Bytes.{zeros};
+ghost use Rattle.session.specs.Lines.{withoutReturn, isSkipped, directed, commanded, answered, Responds, Replies, hasRoom, lineOutcome, answeredIn};
 
 // One carriage return at the end is dropped.
 fn without_return(line: &[u8]) -> &[u8]
@@ -65,7 +68,7 @@ fn command(v: Volume, line: &[u8], beside: &mut [u8], out: &mut [u8]) -> Respons
 }
 
 // The answer to a line, at the start of `out`, and the volume after it. `beside` is room for the bytes of a KEY, POLICY, NAME or BLOCK.
-pub fn answer_line(v: Volume, line: &[u8], beside: &mut [u8], out: &mut [u8]) -> Response
+fn reply(v: Volume, line: &[u8], beside: &mut [u8], out: &mut [u8]) -> Response
     requires { ⌜ (length (now line) ≤ length (now beside)) × (1000 + 2 * length (now beside) ≤ length (now out)) ⌝ }
     ensures { λ r. ⌜ Replies (now (out .entry)) (now (out .exit)) r (answered v (now (line .entry))) ⌝ }
 {
@@ -77,6 +80,64 @@ pub fn answer_line(v: Volume, line: &[u8], beside: &mut [u8], out: &mut [u8]) ->
     let w = said.volume;
     Response {
         len: output::put(out, said.len, b"\n"),
+        volume: w,
+    }
+}
+
+// Writes zeros over a buffer.
+fn clear(b: &mut [u8])
+    ensures { λ _. ⌜ now (b .exit) ≡ zeros (length (now (b .entry))) ⌝ }
+{
+    let mut i: usize = 0;
+    while i < b.len() {
+        b[i] = 0;
+        i += 1;
+    }
+}
+
+// `reply`, after which no byte of a key or a block stays in `beside`.
+fn reply_and_clear(v: Volume, line: &[u8], beside: &mut [u8], out: &mut [u8]) -> Response
+    requires { ⌜ (length (now line) ≤ length (now beside)) × (1000 + 2 * length (now beside) ≤ length (now out)) ⌝ }
+    ensures { λ r. ⌜ Replies (now (out .entry)) (now (out .exit)) r (answered v (now (line .entry))) ⌝ }
+    ensures { λ _. ⌜ now (beside .exit) ≡ zeros (length (now (beside .entry))) ⌝ }
+{
+    let said = reply(v, line, beside, out);
+    clear(beside);
+    said
+}
+
+// Whether the buffers have room for a line. The test is in a form that cannot overflow.
+fn has_room(line: &[u8], beside: &[u8], out: &[u8]) -> bool
+    ensures { λ r. ⌜ r ≡ hasRoom (length (now (line .entry))) (length (now (beside .entry))) (length (now (out .entry))) ⌝ }
+{
+    if beside.len() < line.len() {
+        return false;
+    }
+    if out.len() < 1000 {
+        return false;
+    }
+    line.len() <= (out.len() - 1000) / 2
+}
+
+// A line, and any buffers. `beside` is room for the bytes of a KEY, POLICY, NAME or BLOCK: as many as the line has, and they are zeros afterwards. `out` is
+// room for the answer: 1,000 bytes, and two for each byte of the line; the answer stands at its start. Where either buffer is too small, nothing is done.
+pub fn answer_line(v: Volume, line: &[u8], beside: &mut [u8], out: &mut [u8]) -> LineAnswer
+    ensures { λ r. ⌜ lineOutcome r (now (beside .exit)) (now (out .exit)) ≡ answeredIn v (now (line .entry)) (now (beside .entry)) (now (out .entry)) ⌝ }
+    ensures { λ r. ⌜ Counts (r .len) (now (out .exit)) ⌝ }
+{
+    if !has_room(line, beside, out) {
+        return LineAnswer {
+            fits: false,
+            len: 0,
+            volume: v,
+        };
+    }
+    let n = line.len();
+    let said = reply_and_clear(v, line, &mut beside[..n], out);
+    let w = said.volume;
+    LineAnswer {
+        fits: true,
+        len: said.len,
         volume: w,
     }
 }

@@ -5,7 +5,6 @@ use libc::STDIN_FILENO;
 use script::cutting;
 ghost use Prim.Native.Nat.{_≤_, _<_};
 ghost use lib.ListN.{length};
-ghost use Rattle.io.specs.Counts.{Counts};
 
 // Answers a line, the first `used` bytes of `line`. One that fills all of `line` is too long: it may have been cut.
 fn finish(line: &[u8], used: usize)
@@ -37,16 +36,8 @@ fn take_chunk(line: &mut [u8], used: usize, chunk: &[u8]) -> usize
     n
 }
 
-// Reads once, and returns how many bytes came: none at the end of the input, or where the read fails.
-fn read_some(chunk: &mut [u8]) -> usize
-    ensures { λ r. ⌜ Counts r (now (chunk .exit)) ⌝ }
-{
-    let got = libc::read(STDIN_FILENO, chunk);
-    io::count(got, chunk)
-}
-
-// Answers each line that a newline ends, and returns how many bytes of a last line are left. A proved loop has to end, and nothing says that the input
-// does: so the loop counts its turns down, from a number that no run uses up.
+// Answers each line that a newline ends, until no byte comes, and returns how many bytes of a last line are left; a read that fails ends the input. A proved
+// loop has to end, and nothing says that the input does: so the loop counts its turns down, from a number that no run uses up.
 fn answer_whole_lines(line: &mut [u8], chunk: &mut [u8]) -> usize
     requires { ⌜ 0 < length (now line) ⌝ }
     ensures { λ r. ⌜ r ≤ length (now (line .entry)) ⌝ }
@@ -54,7 +45,8 @@ fn answer_whole_lines(line: &mut [u8], chunk: &mut [u8]) -> usize
     let mut used: usize = 0;
     let mut turns = u64::MAX;
     while 0 < turns {
-        let n = read_some(chunk);
+        let got = libc::read(STDIN_FILENO, chunk);
+        let n = io::count(got, chunk);
         if n == 0 {
             return used;
         }

@@ -12,21 +12,19 @@ use Rattle.session.proofs.input.answer_kept.Tie as tie
 slice-aggregate-answer-line : tie.Need-slice-aggregate-answer-line
 slice-aggregate-answer-line c = sym (length-take-le _ _ (c .before .before .before .before .pre .0))
 
-answer-line-requires : tie.Need-answer-line-requires
-answer-line-requires c κs = let s = c .before .before .before .before .before .before in (omega (arith, length-take (s .args .used) (now (s .args .line)), s .pre .0, s .pre .2), omega (arith, s .pre .3))
-
 returns : tie.Need-returns
 returns c =
     let s = c .before .before .before .before .before .before .before .before .before .before .before in
     let a = c .before .before .before .before .answer-line in
-    (omega (arith, a .ensures .1, a .ensures .3), held-ends (now (s .args .line)) (s .args .v) (s .args .used) (now (s .args .out)) _ _ (s .pre .1) (a .ensures))
+    let k = length-take (s .args .used) (now (s .args .line)) in
+    (omega (arith, a .ensures .1 .0, a .kept .1 .1 .1 .0), held-ends (now (s .args .line)) (s .args .v) (s .args .used) (now (s .args .beside)) (now (s .args .out)) _ _ (a .result) (s .pre .1) (omega (arith, s .pre .2), omega (arith, s .pre .2, s .pre .3)) (a .ensures .0))
 
 pub answer-kept-spec : {M : Type 1} → statement M
 answer-kept-spec =
     tie.close
     (tie.spec
     slice-aggregate-answer-line
-    answer-line-requires
+    (λ c κs. search needs)
     (λ c. search needs)
     (λ c. search needs)
     returns)

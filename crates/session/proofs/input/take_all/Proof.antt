@@ -20,13 +20,14 @@ loop-holds : tie.Need-loop-holds Inv-loop μ-loop
 loop-holds c = let s = c .before .before .before .before .before in (search needs, s .pre .0, refl, refl, refl, s .pre .1, s .pre .2, refl, begun-none (now (s .args .line)) _ (c .fresh .ensures))
 
 returns : tie.Need-returns Inv-loop μ-loop
-returns c = let l = c .before .before .before .before .before .before .loop in (omega arith, l .inv .8)
+returns c = let l = c .before .before .before .before .before .before .before .before .loop in (omega arith, l .inv .8)
 
 loop-again : tie.Need-loop-again Inv-loop μ-loop
 loop-again c =
-    let l = c .before .before .before .before .before .before .before .before .before .before .before .before .before .before .before .before .before .loop in
+    let l = c .before .before .before .before .before .before .before .before .before .before .before .before .before .before .before .before .before .before .before .loop in
     let a = c .before .before .before .before .before .before .take-chunk in
-    let r = c .before .before .before .before .before .before .before .before .before .before .before .before .before .before .read-some in (
+    let r = c .before .before .before .before .before .before .before .before .before .before .before .before .before .before .before .before .read in
+    let n = c .before .before .before .before .before .before .before .before .before .before .before .before .count in (
       omega (arith, a .ensures .0, a .kept .1 .0),
       omega (arith, a .kept .1 .0),
       omega (arith, a .kept .1 .0),
@@ -35,7 +36,7 @@ loop-again c =
       search needs,
       search needs,
       search needs,
-      begun-more (l .line) (l .p .volume) (l .p .used) (take (r .result) (r .last .1 .0)) (a .last .1 .0) (a .result .volume) (a .result .used) (l .inv .8) (a .ensures .1),
+      begun-more (l .line) (l .p .volume) (l .p .used) (take (n .result) (r .last .1 .0)) (a .last .1 .0) (a .result .volume) (a .result .used) (l .inv .8) (a .ensures .1),
     )
 
 returns-2 : tie.Need-returns-2 Inv-loop μ-loop
@@ -49,6 +50,7 @@ take-all-spec =
     μ-loop
     (λ c κs. search needs)
     loop-holds
+    (λ c κs. search needs)
     (λ c κs. search needs)
     (λ c. search needs)
     (λ c. search needs)

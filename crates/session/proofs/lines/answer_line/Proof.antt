@@ -1,38 +1,50 @@
--- `answer_line`: nothing, or the answer and a newline. Assumes nothing.
-use Rattle.session.proofs.Answering.{same-answer, withoutReturn-length, skips, answers, then-ended}
-use Rattle.session.specs.Answers.{saying}
+-- `answer_line`: buffers without room are handed back; else as many bytes of `beside` as the line has are lent on, and come back as zeros. Assumes nothing.
 use native.Mathlib.Omega.{arith}
-use mathlib.Core.Path.{refl, sym, _∙_, ap}
+use mathlib.Core.Path.{sym}
 use denote.Ref.{now}
-use mathlib.Core.List.{[]}
-use lib.ListN.{length}
-use Rattle.session.specs.Lines.{commanded}
+use lib.ListN.{length, length-take}
+use lib.Seq.{length-take-le}
+use Rattle.session.proofs.Room.{passed, failed, no-room, done-in, counted}
 use borrow.Author.Needs.{needs}
 use Rattle.session.proofs.lines.answer_line.Statement.{statement}
 use Rattle.session.proofs.lines.answer_line.Tie as tie
 
 returns : tie.Need-returns
-returns c = same-answer (now (c .before .before .before .before .before .before .args .out)) _ 0 _ (saying [] (c .before .before .before .before .before .before .args .v)) _ (refl, refl, refl, omega arith) (skips _ _ _ (c .before .before .without-return .ensures) (sym (c .before .is-skipped .ensures) ∙ c .if1 .taken))
+returns c =
+    let s = c .before .before .before .before .before .before .before .args in
+    (no-room (s .v) (now (s .line)) (now (s .beside)) (now (s .out)) (failed (length (now (s .line))) (length (now (s .beside))) (length (now (s .out))) _ (c .before .has-room .ensures) (c .if1 .taken)), counted 0 (now (s .out)) (omega arith))
 
-command-requires : tie.Need-command-requires
-command-requires c κs = let s = c .before .before .before .before .before .before .before .before in (omega (arith, s .pre .0, ap length (c .before .before .before .before .without-return .ensures), withoutReturn-length (now (s .args .line))), omega (arith, s .pre .1))
+slice-relend-prefix-reply-and-clear : tie.Need-slice-relend-prefix-reply-and-clear
+slice-relend-prefix-reply-and-clear c = passed _ _ _ _ (c .before .has-room .ensures) (c .if1 .left) .0
 
-put-requires : tie.Need-put-requires
-put-requires c κs = omega (arith, c .before .before .before .before .before .before .before .command .ensures .1 .0, c .before .before .before .before .before .before .before .command .ensures .1 .2)
+slice-aggregate-reply-and-clear : tie.Need-slice-aggregate-reply-and-clear
+slice-aggregate-reply-and-clear c = sym (length-take-le _ _ (passed _ _ _ _ (c .before .before .has-room .ensures) (c .before .if1 .left) .0))
+
+reply-and-clear-requires : tie.Need-reply-and-clear-requires
+reply-and-clear-requires c κs =
+    let s = c .before .before .before .before .before .before .before .before .before .args in
+    let h = passed (length (now (s .line))) (length (now (s .beside))) (length (now (s .out))) _ (c .before .before .before .has-room .ensures) (c .before .before .if1 .left) in
+    let k = length-take (length (now (s .line))) (now (s .beside)) in
+    (omega (arith, h .0), omega (arith, h .1))
 
 returns-2 : tie.Need-returns-2
-returns-2 c = same-answer _ _ _ _ _ _ (then-ended (now (c .before .before .before .before .before .before .before .before .before .before .before .before .before .before .before .before .before .before .before .args .out)) _ _ _ _ _ (commanded (c .before .before .before .before .before .before .before .before .before .before .before .before .before .before .before .before .before .before .before .args .v) (now (c .before .before .before .before .before .before .before .before .before .before .before .before .before .before .before .without-return .result))) (c .before .before .before .before .before .before .before .before .before .before .command .ensures) (c .before .before .put .ensures)) (answers _ _ _ (c .before .before .before .before .before .before .before .before .before .before .before .before .before .before .before .without-return .ensures) (sym (c .before .before .before .before .before .before .before .before .before .before .before .before .before .before .is-skipped .ensures) ∙ c .before .before .before .before .before .before .before .before .before .before .before .before .before .if1 .left))
+returns-2 c =
+    let s = c .before .before .before .before .before .before .before .before .before .before .before .before .before .before .before .args in
+    let a = c .before .before .before .before .before .reply-and-clear in
+    let h = passed (length (now (s .line))) (length (now (s .beside))) (length (now (s .out))) _ (c .before .before .before .before .before .before .before .before .before .has-room .ensures) (c .before .before .before .before .before .before .before .before .if1 .left) in
+    (done-in (s .v) (now (s .line)) (now (s .beside)) (now (s .out)) (a .result .len) (a .result .volume) _ (a .last .1 .1 .1 .0) h (a .ensures .0) (a .ensures .1), counted (a .result .len) (a .last .1 .1 .1 .0) (omega (arith, a .ensures .0 .1, a .ensures .0 .3, a .kept .1 .1 .1 .0)))
 
 pub answer-line-spec : {M : Type 1} → statement M
 answer-line-spec =
     tie.close
     (tie.spec
     (λ c κs. search needs)
-    (λ c κs. search needs)
-    returns
-    command-requires
     (λ c. search needs)
-    put-requires
+    (λ c. search needs)
+    returns
+    slice-relend-prefix-reply-and-clear
+    slice-aggregate-reply-and-clear
+    reply-and-clear-requires
     (λ c. search needs)
     (λ c. search needs)
     returns-2)
