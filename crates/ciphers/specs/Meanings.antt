@@ -1,4 +1,4 @@
--- What the entries' tests of lengths come to, for every key and every buffer, that no two blocks share a tweak, and what the modes do, in plain terms. Assumes nothing.
+-- What the entries' tests of lengths come to, for every key and every buffer, that no two blocks share a tweak, and the tweak's start, its multiplication and ciphertext stealing in plain terms. Assumes nothing.
 use mathlib.Core.Path.{_≡_}
 use mathlib.Core.Logic.{_⊎_, _↔_}
 use Prim.Native.Nat.{ℕ, _*_, _/_, _^_, _≤_, _<_}

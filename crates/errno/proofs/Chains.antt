@@ -30,11 +30,6 @@ go-on a next r q h k n = rw (sym h ∙ k) n
 
 -- ---- a table that was passed
 
-pub passed : (a next : Checked) → _>>_ a next ≡ Fine → (a ≡ Fine) × (next ≡ Fine)
-unfolding _>>_
-passed Fine next h = (refl, h)
-passed (Refused e) next h = absurd (let z : _≡_ {A = ℕ} 0 1 = cc in omega arith)
-
 pub passed-test : (t : Bool) (e : Errno) (next : Checked) → _>>_ (t ⇒ e) next ≡ Fine → (t ≡ false) × (next ≡ Fine)
 unfolding _>>_ _⇒_
 passed-test true e next h = absurd (let z : _≡_ {A = ℕ} 0 1 = cc in omega arith)

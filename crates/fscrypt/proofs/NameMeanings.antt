@@ -73,9 +73,6 @@ of-bad n h = go (or-true (ltb (firstAt isNulOrSlash n) (length n)) (isDotName n)
     go (inl e) = found (ltb-true at (length n) e) (firstAt-least isNulOrSlash n .found-or-end)
     go (inr e) = name (or-true (same n (46 ∷ [])) _ e)
 
-pub isBadName-means : (n : Bytes) → (isBadName n ≡ true) ↔ BadName n
-isBadName-means n = (of-bad n, bad-of n)
-
 -- ---- the four outcomes
 
 pub plain-not-bad : (n : Bytes) → PlainName n → BadName n → ⊥

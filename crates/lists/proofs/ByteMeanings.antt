@@ -9,7 +9,7 @@ use lib.ListN.{length, getD, drop, List·getD-append}
 use lib.Seq.{getD-append-add, getD-drop}
 use lib.Dec.{eqb}
 use Rattle.lists.specs.Bytes.{Bytes, same, isEmpty, hexDigit, laidOver, firstAt}
-use Rattle.lists.specs.Meanings.{hexDigits, Least, ByteMeanings}
+use Rattle.lists.specs.Meanings.{hexDigits, FirstPassing, ByteMeanings}
 use Rattle.lists.proofs.Tests.{eqb-true, and-left, and-right, same-eq, same-of-eq}
 
 -- ---- what holds of every number below a bound, by computing it at each
@@ -41,12 +41,12 @@ hexDigit-means n h = eqb-true (at-each (λ k. eqb (hexDigit k) (getD hexDigits k
 -- ---- the search
 
 module _ {A : Type 0} where
-  pub firstAt-least : (p : A → Bool) (l : List A) → Least p l (firstAt p l)
+  pub firstAt-least : (p : A → Bool) (l : List A) → FirstPassing p l (firstAt p l)
   unfolding firstAt
   firstAt-least p [] = record { none-before = λ i d h. absurd (omega arith); found-or-end = inr refl }
   firstAt-least p (x ∷ xs) = go (p x) refl (firstAt-least p xs)
     where
-      before : p x ≡ false → Least p xs (firstAt p xs) → (i : ℕ) (d : A) → i < suc (firstAt p xs) → p (getD (x ∷ xs) i d) ≡ false
+      before : p x ≡ false → FirstPassing p xs (firstAt p xs) → (i : ℕ) (d : A) → i < suc (firstAt p xs) → p (getD (x ∷ xs) i d) ≡ false
       before e r zero d h = e
       before e r (suc i) d h = r .none-before i d (omega arith)
 
@@ -55,12 +55,12 @@ module _ {A : Type 0} where
       after (inl h) = inl (omega (arith, h .0), h .1)
       after (inr h) = inr (ap suc h)
 
-      go : (b : Bool) → p x ≡ b → Least p xs (firstAt p xs) → Least p (x ∷ xs) (cond b 0 (suc (firstAt p xs)))
+      go : (b : Bool) → p x ≡ b → FirstPassing p xs (firstAt p xs) → FirstPassing p (x ∷ xs) (cond b 0 (suc (firstAt p xs)))
       go true e r = record { none-before = λ i d h. absurd (omega arith); found-or-end = inl (omega arith, λ d. e) }
       go false e r = record { none-before = before e r; found-or-end = after (r .found-or-end) }
 
   -- of two such positions none is the smaller, where the list is not at its end
-  least-le : (p : A → Bool) (l : List A) (m n : ℕ) → Least p l m → Least p l n → n ≤ length l → m < n → ⊥
+  least-le : (p : A → Bool) (l : List A) (m n : ℕ) → FirstPassing p l m → FirstPassing p l n → n ≤ length l → m < n → ⊥
   least-le p [] m n a b g h = absurd (omega arith)
   least-le p (x ∷ xs) m n a b g h = go (a .found-or-end)
     where
@@ -68,18 +68,18 @@ module _ {A : Type 0} where
       go (inl f) = false≢true (sym (b .none-before m x h) ∙ f .1 x)
       go (inr e) = omega arith
 
-  at-most : (p : A → Bool) (l : List A) (n : ℕ) → Least p l n → n ≤ length l
+  at-most : (p : A → Bool) (l : List A) (n : ℕ) → FirstPassing p l n → n ≤ length l
   at-most p l n r = go (r .found-or-end)
     where
       go : ((n < length l) × ((d : A) → p (getD l n d) ≡ true)) ⊎ (n ≡ length l) → n ≤ length l
       go (inl h) = omega (arith, h .0)
       go (inr h) = omega arith
 
-  pub least-one : (p : A → Bool) (l : List A) (m n : ℕ) → Least p l m → Least p l n → m ≡ n
+  pub least-one : (p : A → Bool) (l : List A) (m n : ℕ) → FirstPassing p l m → FirstPassing p l n → m ≡ n
   least-one p l m n a b = omega (arith, least-le p l m n a b (at-most p l n b), least-le p l n m b a (at-most p l m a))
 
-  pub firstAt-means : (p : A → Bool) (l : List A) (n : ℕ) → (firstAt p l ≡ n) ↔ Least p l n
-  firstAt-means p l n = (λ h. subst (Least p l) h (firstAt-least p l), λ r. least-one p l (firstAt p l) n (firstAt-least p l) r)
+  pub firstAt-means : (p : A → Bool) (l : List A) (n : ℕ) → (firstAt p l ≡ n) ↔ FirstPassing p l n
+  firstAt-means p l n = (λ h. subst (FirstPassing p l) h (firstAt-least p l), λ r. least-one p l (firstAt p l) n (firstAt-least p l) r)
 
 -- ---- bytes laid over others
 

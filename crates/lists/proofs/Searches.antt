@@ -1,18 +1,19 @@
 -- What tests and searches mean, as both directions of one law: a conjunction, a disjunction and a negation of tests that have meanings; and a search for a test that
--- has one. `P i` is what the test says of slot i. Each law about searches is by what stands before and at the place where the search ends. Assumes nothing.
-use Prim.Native.Nat.{ℕ, zero, suc, _≤_, _<_}
+-- has one. `P i` is what the test says of slot i. Each law about searches is by what stands before and at the slot where the search ends. Assumes nothing.
+use Prim.Native.Nat.{ℕ, _≤_, _<_}
 use native.Mathlib.Omega.{arith}
 use mathlib.Core.Path.{_≡_, refl, sym, _∙_, subst}
 use mathlib.Core.Logic.{_↔_, _⊎_, inl, inr, ⊎-elim}
-use mathlib.Core.Bool.{Bool, true, false, cond, not, _&&_, _||_, true≢false, false≢true}
-use mathlib.Core.List.{List, [], _∷_}
+use mathlib.Core.Bool.{Bool, true, false, not, _&&_, _||_, true≢false, false≢true}
+use mathlib.Core.List.{List}
 use lib.ListN.{length, getD}
 use lib.Dec.{eqb, leb, ltb}
 use borrow.Author.Tests.{ltb-true, ltb-false, lt-ltb, leb-true, leb-false, le-leb, eq-eqb}
-use Rattle.lists.specs.Bytes.{Bytes, same, firstAt}
-use Rattle.lists.proofs.Tests.{and-left, and-right, eqb-true, same-eq, same-of-eq}
+use Rattle.lists.specs.Bytes.{firstAt}
+use Rattle.lists.proofs.Tests.{and-left, and-right, eqb-true}
 use Rattle.lists.proofs.Predicates.{and-yes}
 use Rattle.lists.proofs.Slots.{by-test, search-hit, search-none}
+use Rattle.lists.proofs.ByteMeanings.{firstAt-least}
 
 -- ---- tests
 
@@ -21,9 +22,6 @@ equal a b = (eqb-true, eq-eqb a b)
 
 pub at-most : (a b : ℕ) → (leb a b ≡ true) ↔ (a ≤ b)
 at-most a b = (leb-true a b, le-leb a b)
-
-pub bytes : (a b : Bytes) → (same a b ≡ true) ↔ (a ≡ b)
-bytes a b = (same-eq a b, same-of-eq)
 
 module _ {A : Type 0} (t : Bool) (f : (t ≡ true) ↔ A) where
   pub fails : (t ≡ false) ↔ (A → ⊥)
@@ -56,16 +54,9 @@ module _ {A : Type 0} (t : Bool) (f : (t ≡ true) ↔ A) where
 
 -- ---- searches
 
--- before the place where a search ends nothing passes
+-- before the slot where a search ends nothing passes
 pub firstAt-before : {A : Type 0} (p : A → Bool) (l : List A) (d : A) (i : ℕ) → i < firstAt p l → p (getD l i d) ≡ false
-unfolding firstAt
-firstAt-before p [] d i h = absurd (omega arith)
-firstAt-before p (x ∷ xs) d i h = go (p x) refl i h (firstAt-before p xs d)
-  where
-    go : (b : Bool) → p x ≡ b → (i : ℕ) → i < cond b 0 (suc (firstAt p xs)) → ((j : ℕ) → j < firstAt p xs → p (getD xs j d) ≡ false) → p (getD (x ∷ xs) i d) ≡ false
-    go true e i h ih = absurd (omega arith)
-    go false e zero h ih = e
-    go false e (suc i) h ih = ih i (omega arith)
+firstAt-before p l d i h = firstAt-least p l .none-before i d h
 
 -- a table of n slots, with d past its end, and a test that says P of a slot
 module _ {A : Type 0} (p : A → Bool) (l : List A) (d : A) (n : ℕ) (size : length l ≡ n) (P : ℕ → Type 0) (means : (i : ℕ) → (p (getD l i d) ≡ true) ↔ P i) where

@@ -1,4 +1,4 @@
--- Ciphertext stealing is CBC of the text filled up with zeros, whose last two blocks change places, cut to the text's length: a block is read past the end of the text
+-- Ciphertext stealing is CBC of the text filled up with zeros, whose last two blocks are exchanged, cut to the text's length: a block is read past the end of the text
 -- as zeros, so CBC reads the same blocks. Assumes nothing.
 use mathlib.Core.Path.{_≡_, refl, sym, ap, ap₂, _∙_}
 use mathlib.Core.List.{List, _++_, append-assoc}
@@ -32,7 +32,7 @@ module _ (step : State → State → State) (next : State → State → State �
   walked-same zero = refl
   walked-same (suc i) = cc (walked-same i, carried-same i, same (16 * i))
 
--- ---- the last two parts of a list change places
+-- ---- the last two parts of a list are exchanged
 
 module _ (A B D : List ℕ) (k : ℕ) (ea : length A ≡ k) (eb : length B ≡ 16) where
   swapped : take k ((A ++ B) ++ D) ++ drop (k + 16) ((A ++ B) ++ D) ++ take 16 (drop k ((A ++ B) ++ D)) ≡ (A ++ D) ++ B

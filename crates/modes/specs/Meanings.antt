@@ -20,7 +20,7 @@ littleEndian (b ∷ bs) = b + 256 * littleEndian bs
 abbrev pub alphaModulus : ℕ
 alphaModulus = 2 ^ 128 + 2 ^ 7 + 2 ^ 2 + 2 + 1
 
--- n blocks, of which the last two change places
+-- n blocks, of which the last two are exchanged
 abbrev pub lastTwoSwapped : Bytes → ℕ → Bytes
 lastTwoSwapped c n = take (16 * (n - 2)) c ++ drop (16 * (n - 1)) c ++ take 16 (drop (16 * (n - 2)) c)
 
@@ -37,6 +37,6 @@ pub record ModeMeanings : Type 0 where
   -- multiplication by α is multiplication by x, less the modulus where x^128 comes out
   pub times-x : (t : State) → ByteList (stateBytes t)
       → littleEndian (stateBytes (timesAlpha t)) ≡ (2 * littleEndian (stateBytes t)) ⊕ (littleEndian (stateBytes t) / 2 ^ 127 * alphaModulus)
-  -- ciphertext stealing: the last two blocks of CBC change places, and the text's length is kept
+  -- ciphertext stealing: the last two blocks of CBC are exchanged, and the text's length is kept
   pub stolen : (w : Bytes) (nr : ℕ) (iv : State) (l : Bytes) → 16 < length l
       → cbcCs3Encrypt w nr iv l ≡ take (length l) (lastTwoSwapped (cbcPadded w nr iv l ((length l + 15) / 16)) ((length l + 15) / 16))

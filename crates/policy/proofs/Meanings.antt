@@ -8,7 +8,8 @@ use mathlib.Core.Bool.{Bool, true, false, not, false≢true}
 use lib.ListN.{length, take, drop, getD, length-drop}
 use lib.Seq.{take-all}
 use Rattle.lists.specs.Bytes.{Bytes, zeros}
-use Rattle.lists.proofs.Searches.{equal, at-most, bytes, both}
+use Rattle.lists.proofs.ByteMeanings.{same-means}
+use Rattle.lists.proofs.Searches.{equal, at-most, both}
 use Rattle.errno.specs.Refusals.{_⇒_, _>>_}
 use Rattle.errno.specs.declared.Errno.the-variants.{EINVAL}
 use Rattle.errno.specs.declared.Checked.{Checked}
@@ -27,7 +28,7 @@ pub same-policy : (a b : Policy) → (samePolicy a b ≡ true) ↔ (a ≡ b)
 unfolding samePolicy
 same-policy a b =
     let fields = both _ (equal (a .version) (b .version)) _
-    (both _ (equal (a .contents) (b .contents)) _ (both _ (equal (a .names) (b .names)) _ (both _ (equal (a .flags) (b .flags)) _ (bytes (a .descriptor) (b .descriptor))))) in (
+    (both _ (equal (a .contents) (b .contents)) _ (both _ (equal (a .names) (b .names)) _ (both _ (equal (a .flags) (b .flags)) _ (same-means (a .descriptor) (b .descriptor))))) in (
       λ h.
           let (version, (contents, (names, (flags, descriptor)))) = fields .0 h in
           policy-eq version contents names flags descriptor,
