@@ -4,7 +4,9 @@ use ids::InodeNumber;
 ghost use Rattle.lists.specs.Bytes.{ByteList};
 ghost use Rattle.fscrypt.specs.Cipher.{fscrypt};
 ghost use Rattle.volume.specs.Leaves.{Leaves};
+ghost use Rattle.volume.specs.Does.{Does};
 ghost use Rattle.volume.specs.DoneWhen.{DoneWhen};
+ghost use Rattle.volume.specs.UnderKeys.{UnderKeys};
 ghost use Rattle.volume.specs.PolicyClause.{PolicyClause};
 ghost use Rattle.volume.specs.SealedOpens.{SealedOpens};
 ghost use Rattle.volume.specs.Request.{AllTyped, thirteen};
@@ -28,7 +30,7 @@ pub fn the_climb_ends()
     ensures { λ _. ⌜ ClimbEnds fscrypt ⌝ }
 {}
 
-// Each test in the definitions is equal, in both directions, to a plain predicate in which no test stands; on a fresh volume, and after every request of every list.
+// Each test that a request leans on is equal, in both directions, to a plain predicate; those on a volume, fresh and after every request of every list.
 pub fn tests_mean_what_they_say()
     ensures { λ _. ⌜ TestsMean fscrypt ⌝ }
 {}
@@ -91,4 +93,14 @@ pub fn two_runs_agree()
 // On every sound volume, and so on every one that requests made, each request is done exactly on its occasion, in plain predicates, and answers what it is to answer.
 pub fn each_request_is_done_exactly_when()
     ensures { λ _. ⌜ DoneWhen fscrypt ⌝ }
+{}
+
+// On every such volume a request that is done leaves what it is to leave in the slots that it writes, in plain predicates, and all else as it was.
+pub fn each_request_does_what_it_is_to()
+    ensures { λ _. ⌜ Does fscrypt ⌝ }
+{}
+
+// On every such volume names and blocks are stored, sealed, opened and shown under the key of their directory or inode, and under no other.
+pub fn names_and_blocks_are_under_their_keys()
+    ensures { λ _. ⌜ UnderKeys fscrypt ⌝ }
 {}

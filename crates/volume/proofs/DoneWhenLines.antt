@@ -3,7 +3,7 @@
 use Prim.Native.Nat.{ℕ, _≤_, _<_}
 use native.Mathlib.Omega.{arith}
 use mathlib.Core.Path.{_≡_, refl, sym, _∙_, ap}
-use mathlib.Core.Logic.{_≢_, _⊎_, inl, inr, ⊎-elim, _↔_}
+use mathlib.Core.Logic.{_≢_, _↔_}
 use mathlib.Core.Bool.{Bool, true, false, cond, not, _&&_, true≢false, false≢true}
 use mathlib.Core.List.{[]}
 use lib.ListN.{getD}
@@ -12,7 +12,7 @@ use borrow.Author.Tests.{eqb-false, ne-eqb, leb-false, lt-leb, ltb-true, lt-ltb,
 use Rattle.lists.specs.Bytes.{Bytes}
 use Rattle.lists.proofs.Tests.{not-false}
 use Rattle.lists.proofs.Predicates.{not-of-true}
-use Rattle.lists.proofs.Slots.{by-eq, by-test}
+use Rattle.lists.proofs.Slots.{by-test}
 use Rattle.lists.proofs.Searches.{fails}
 use Rattle.errno.proofs.ChainMeanings.{isFine-means}
 use Rattle.errno.specs.Refusals.{isFine}
@@ -55,17 +55,6 @@ after false u = (λ h e. absurd (false≢true e), λ f. refl)
 pub choice : (t : Bool) (a b : Checked) → (cond t a b ≡ Fine) ↔ ((t ≡ true → a ≡ Fine) × (t ≡ false → b ≡ Fine))
 choice true a b = (λ h. (λ e. h, λ e. absurd (true≢false e)), λ p. p .0 refl)
 choice false a b = (λ h. (λ e. absurd (false≢true e), λ e. h), λ p. p .1 refl)
-
--- ---- kinds
-
-pub four : (k : ℕ) → ((k ≡ 1) ⊎ ((k ≡ 2) ⊎ ((k ≡ 3) ⊎ (k ≡ 4)))) ↔ ((1 ≤ k) × (k ≤ 4))
-four k = (
-  ⊎-elim (λ e. omega arith) (⊎-elim (λ e. omega arith) (⊎-elim (λ e. omega arith) (λ e. omega arith))),
-  λ w.
-      let low : 1 ≤ k = w .0 in
-      let high : k ≤ 4 = w .1 in
-      by-eq k 1 inl (λ one. by-eq k 2 (λ e. inr (inl e)) (λ two. by-eq k 3 (λ e. inr (inr (inl e))) (λ three. inr (inr (inr (omega arith)))))),
-)
 
 -- ---- room
 

@@ -32,7 +32,7 @@ use Rattle.volume.proofs.Passed.{key-present}
 use Rattle.lists.proofs.Searches.{equal, fails}
 use Rattle.volume.proofs.PlainMeanings.{plain-meanings}
 use Rattle.volume.proofs.Meanings.{meanings}
-use Rattle.volume.proofs.DoneWhenLines.{negated, differ, at-least, found, after, choice, four, room, may-hold-is, policy-read, name-read}
+use Rattle.volume.proofs.DoneWhenLines.{negated, differ, at-least, found, after, choice, room, may-hold-is, policy-read, name-read}
 
 module _ (C : Cipher) (v : Volume) (s : Sound v) where
   means : Meanings v
@@ -56,7 +56,7 @@ module _ (C : Cipher) (v : Volume) (s : Sound v) where
   key-there i = fails _ (means .key-lacking i)
 
   known-kind : (k : ℕ) → (isBadKind k ≡ false) ↔ ((1 ≤ k) × (k ≤ 4))
-  known-kind k = (λ h. four k .0 (plain-meanings .kind k .0 h), λ w. plain-meanings .kind k .1 (four k .1 w))
+  known-kind = plain-meanings .kind
 
   needed : (dir : Inode) (k : ℕ) → (isNonceNeeded dir k ≡ true) ↔ ((dir .encrypted ≡ true) × (k ≤ 3))
   needed = plain-meanings .nonce-needed

@@ -1,5 +1,7 @@
--- Requests that are done, each in each situation that document 01 allows, with what they answer and write, computed from the definitions. They rule out wrong
--- definitions that no general statement rules out: a request refused that should be done, a number or a byte that is not looked at. Assumes nothing.
+-- Requests that are done, with what they answer and write, computed from the definitions: every form of answer, and inodes of each kind created, shown, renamed,
+-- exchanged, linked if no directory, and removed, in plain and in encrypted directories. That a request is done just when it should be is said in general, by
+-- `volume/specs/DoneWhen.antt`. The runs have answers, records and buffers whole, and so rule out what the general statements leave open: a number or a byte that is
+-- not looked at, or is written wrong. Assumes nothing.
 use mathlib.Core.Path.{_≡_, refl}
 use mathlib.Core.Bool.{cond}
 use mathlib.Core.List.{List, [], _∷_, _++_, map}
@@ -249,11 +251,128 @@ names =
     ∷ show (entry 9) blank answers seen 1 10 1 Encoded 64 leaving (counted 26 65 ++ counted 26 97 ++ counted 10 48 ++ 43 ∷ 44 ∷ 77 ∷ [])
     ∷ []
 
+-- ---- exchange within one directory, and the kinds that are neither a directory nor a regular file
+
+others : List Occasion
+others =
+    -- a plain directory 1 and an encrypted one 2, with one of each kind in each
+    addKey (descriptor 8) (key 9) answers done
+    ∷ create (inode 0) 1 (112 ∷ []) (nonce 0) answers created (inode 1) (entry 0)
+    ∷ create (inode 0) 1 (101 ∷ []) (nonce 0) answers created (inode 2) (entry 1)
+    ∷ setPolicy (inode 2) (policy 1 8) (nonce 1) answers done
+    ∷ create (inode 1) 1 (97 ∷ []) (nonce 0) answers created (inode 3) (entry 2)
+    ∷ create (inode 1) 2 (98 ∷ []) (nonce 0) answers created (inode 4) (entry 3)
+    ∷ create (inode 1) 3 (99 ∷ []) (nonce 0) answers created (inode 5) (entry 4)
+    ∷ create (inode 1) 4 (100 ∷ []) (nonce 0) answers created (inode 6) (entry 5)
+    ∷ create (inode 2) 1 (97 ∷ []) (nonce 2) answers created (inode 7) (entry 6)
+    ∷ create (inode 2) 2 (98 ∷ []) (nonce 3) answers created (inode 8) (entry 7)
+    ∷ create (inode 2) 3 (99 ∷ []) (nonce 4) answers created (inode 9) (entry 8)
+    ∷ create (inode 2) 4 (100 ∷ []) (nonce 0) answers created (inode 10) (entry 9)
+    -- two entries of one directory, plain and encrypted: the inodes change places, and the names stay
+    ∷ exchange (entry 2) (entry 3) answers done
+    ∷ show (entry 2) blank answers seen 1 4 2 Plain 1 leaving (97 ∷ 77 ∷ [])
+    ∷ show (entry 3) blank answers seen 1 3 1 Plain 1 leaving (98 ∷ 77 ∷ [])
+    ∷ exchange (entry 7) (entry 6) answers done
+    ∷ show (entry 6) blank answers seen 2 8 2 Decrypted 1 leaving (97 ∷ 77 ∷ [])
+    ∷ show (entry 7) blank answers seen 2 7 1 Decrypted 1 leaving (98 ∷ 77 ∷ [])
+    ∷ find (inode 2) (97 ∷ []) answers at (entry 6)
+    ∷ exchange (entry 8) (entry 9) answers done
+    ∷ show (entry 8) blank answers seen 2 10 4 Decrypted 1 leaving (99 ∷ 77 ∷ [])
+    ∷ show (entry 9) blank answers seen 2 9 3 Decrypted 1 leaving (100 ∷ 77 ∷ [])
+    ∷ exchange (entry 8) (entry 9) answers done
+    ∷ exchange (entry 5) (entry 4) answers done
+    ∷ show (entry 4) blank answers seen 1 6 4 Plain 1 leaving (99 ∷ 77 ∷ [])
+    ∷ show (entry 5) blank answers seen 1 5 3 Plain 1 leaving (100 ∷ 77 ∷ [])
+    ∷ exchange (entry 4) (entry 5) answers done
+    -- two entries of one inode, in one directory and in two: nothing changes
+    ∷ link (inode 8) (inode 2) (108 ∷ []) answers at (entry 10)
+    ∷ link (inode 8) (inode 1) (108 ∷ []) answers at (entry 11)
+    ∷ exchange (entry 6) (entry 10) answers done
+    ∷ exchange (entry 11) (entry 6) answers done
+    ∷ show (entry 6) blank answers seen 2 8 2 Decrypted 1 leaving (97 ∷ 77 ∷ [])
+    ∷ show (entry 10) blank answers seen 2 8 2 Decrypted 1 leaving (108 ∷ 77 ∷ [])
+    ∷ show (entry 11) blank answers seen 1 8 2 Plain 1 leaving (108 ∷ 77 ∷ [])
+    ∷ remove (entry 6) answers done
+    ∷ remove (entry 10) answers done
+    ∷ getPolicy (inode 8) answers policyIs (policy 1 8)
+    -- a symlink renamed within its directory, an encrypted one to a plain directory and back
+    ∷ rename (entry 4) (inode 1) (115 ∷ []) answers done
+    ∷ show (entry 4) blank answers seen 1 5 3 Plain 1 leaving (115 ∷ 77 ∷ [])
+    ∷ rename (entry 8) (inode 1) (116 ∷ []) answers done
+    ∷ show (entry 8) blank answers seen 1 9 3 Plain 1 leaving (116 ∷ 77 ∷ [])
+    ∷ rename (entry 8) (inode 2) (117 ∷ []) answers done
+    ∷ show (entry 8) blank answers seen 2 9 3 Decrypted 1 leaving (117 ∷ 77 ∷ [])
+    -- a special file renamed within its directory, and from a plain one to an encrypted one
+    ∷ rename (entry 9) (inode 2) (115 ∷ []) answers done
+    ∷ show (entry 9) blank answers seen 2 10 4 Decrypted 1 leaving (115 ∷ 77 ∷ [])
+    ∷ rename (entry 5) (inode 2) (116 ∷ []) answers done
+    ∷ show (entry 5) blank answers seen 2 6 4 Decrypted 1 leaving (116 ∷ 77 ∷ [])
+    -- a symlink linked: plain in a plain directory, encrypted in its own and in a plain one
+    ∷ link (inode 5) (inode 0) (115 ∷ []) answers at (entry 6)
+    ∷ link (inode 9) (inode 2) (118 ∷ []) answers at (entry 10)
+    ∷ link (inode 9) (inode 1) (118 ∷ []) answers at (entry 12)
+    ∷ show (entry 6) blank answers seen 0 5 3 Plain 1 leaving (115 ∷ 77 ∷ [])
+    ∷ show (entry 10) blank answers seen 2 9 3 Decrypted 1 leaving (118 ∷ 77 ∷ [])
+    ∷ show (entry 12) blank answers seen 1 9 3 Plain 1 leaving (118 ∷ 77 ∷ [])
+    -- a symlink stays while it has an entry; with the last its number is free again, and its nonce
+    ∷ remove (entry 8) answers done
+    ∷ remove (entry 10) answers done
+    ∷ getPolicy (inode 9) answers policyIs (policy 1 8)
+    ∷ create (inode 2) 3 (119 ∷ []) (nonce 4) answers refused 76
+    ∷ remove (entry 12) answers done
+    ∷ getPolicy (inode 9) answers refused 2
+    ∷ create (inode 2) 3 (119 ∷ []) (nonce 4) answers created (inode 9) (entry 8)
+    ∷ remove (entry 4) answers done
+    ∷ getPolicy (inode 5) answers refused 61
+    ∷ remove (entry 6) answers done
+    ∷ getPolicy (inode 5) answers refused 2
+    ∷ create (inode 1) 2 (99 ∷ []) (nonce 0) answers created (inode 5) (entry 4)
+    -- so is a special file's
+    ∷ remove (entry 5) answers done
+    ∷ getPolicy (inode 6) answers refused 2
+    ∷ create (inode 2) 4 (116 ∷ []) (nonce 0) answers created (inode 6) (entry 5)
+    ∷ remove (entry 9) answers done
+    ∷ getPolicy (inode 10) answers refused 2
+    ∷ create (inode 1) 3 (115 ∷ []) (nonce 0) answers created (inode 10) (entry 6)
+    ∷ show (entry 5) blank answers seen 2 6 4 Decrypted 1 leaving (116 ∷ 77 ∷ [])
+    ∷ show (entry 6) blank answers seen 1 10 3 Plain 1 leaving (115 ∷ 77 ∷ [])
+    -- a plain file is renamed, linked and removed; so is a special file that goes from an encrypted directory to a plain one
+    ∷ rename (entry 2) (inode 1) (102 ∷ []) answers done
+    ∷ show (entry 2) blank answers seen 1 4 2 Plain 1 leaving (102 ∷ 77 ∷ [])
+    ∷ link (inode 4) (inode 0) (102 ∷ []) answers at (entry 9)
+    ∷ show (entry 9) blank answers seen 0 4 2 Plain 1 leaving (102 ∷ 77 ∷ [])
+    ∷ remove (entry 2) answers done
+    ∷ getPolicy (inode 4) answers refused 61
+    ∷ remove (entry 9) answers done
+    ∷ getPolicy (inode 4) answers refused 2
+    ∷ rename (entry 5) (inode 1) (100 ∷ []) answers done
+    ∷ show (entry 5) blank answers seen 1 6 4 Plain 1 leaving (100 ∷ 77 ∷ [])
+    ∷ link (inode 6) (inode 0) (100 ∷ []) answers at (entry 2)
+    ∷ show (entry 2) blank answers seen 0 6 4 Plain 1 leaving (100 ∷ 77 ∷ [])
+    ∷ remove (entry 5) answers done
+    ∷ getPolicy (inode 6) answers refused 61
+    ∷ remove (entry 2) answers done
+    ∷ getPolicy (inode 6) answers refused 2
+    -- each kind that has the policy takes it again, whatever the nonce
+    ∷ setPolicy (inode 2) (policy 1 8) (nonce 4) answers done
+    ∷ setPolicy (inode 7) (policy 1 8) (nonce 4) answers done
+    ∷ setPolicy (inode 8) (policy 1 8) (nonce 4) answers done
+    ∷ setPolicy (inode 9) (policy 1 8) (nonce 4) answers done
+    -- an empty directory of a plain and of an encrypted one goes, and a file of the encrypted one
+    ∷ remove (entry 3) answers done
+    ∷ getPolicy (inode 3) answers refused 2
+    ∷ remove (entry 7) answers done
+    ∷ getPolicy (inode 7) answers refused 2
+    ∷ create (inode 2) 2 (97 ∷ []) (nonce 2) answers created (inode 3) (entry 2)
+    ∷ remove (entry 2) answers done
+    ∷ getPolicy (inode 3) answers refused 2
+    ∷ []
+
 runs : List (List Occasion)
-runs = moves ∷ policies ∷ blocks ∷ names ∷ []
+runs = moves ∷ policies ∷ blocks ∷ names ∷ others ∷ []
 
 answers : map computed runs ≡ map expected runs
-unfolding ran moves policies blocks alphabet names runs
+unfolding ran moves policies blocks alphabet names others runs
 answers = refl
 
 -- ---- records: "A freed record is all zeros, and so are a record's unused bytes."

@@ -36,6 +36,8 @@ pub mod Leaves
 mod DoneWhenLines
 mod DoneWhenTables
 pub mod DoneWhen
+pub mod Does
+pub mod UnderKeys
 -- names and keys in every run
 mod NamesSince
 pub mod KeyedNames

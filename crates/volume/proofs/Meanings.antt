@@ -10,7 +10,8 @@ use Rattle.lists.specs.Bytes.{Bytes, firstAt}
 use Rattle.lists.proofs.Tests.{eqb-other}
 use Rattle.lists.proofs.Tables.{firstAt-ends}
 use Rattle.lists.proofs.Slots.{firstAt-found}
-use Rattle.lists.proofs.Searches.{equal, bytes, fails, denied, both, least-found, none-found, some-found}
+use Rattle.lists.proofs.ByteMeanings.{same-means}
+use Rattle.lists.proofs.Searches.{equal, fails, denied, both, least-found, none-found, some-found}
 use Rattle.errno.specs.Refusals.{_⇒_, _>>_}
 use Rattle.errno.specs.declared.Errno.the-variants.{ENOENT, ENOTDIR}
 use Rattle.errno.specs.declared.Checked.{Checked}
@@ -85,14 +86,14 @@ module _ (v : Volume) where
   on-keyring : (d : Bytes) (k : ℕ) → (onKeyring d (keyAt v k) ≡ true) ↔ KeyIn v d k
   on-keyring d k =
       Iff·trans
-      (both _ (denied _ (equal ((keyAt v k) .len) 0)) _ (bytes ((keyAt v k) .descriptor) d))
+      (both _ (denied _ (equal ((keyAt v k) .len) 0)) _ (same-means ((keyAt v k) .descriptor) d))
       (λ r. record { in-use = r .0; descriptor = r .1 }, λ w. (w .in-use, w .descriptor))
 
   bears : (x : Bytes) (i : ℕ) → (bearsNonce x (nodeAt v i) ≡ true) ↔ Bears v x i
   unfolding bearsNonce
   bears x i =
       Iff·trans
-      (both ((nodeAt v i) .encrypted) Iff·rfl _ (bytes ((nodeAt v i) .context .nonce) x))
+      (both ((nodeAt v i) .encrypted) Iff·rfl _ (same-means ((nodeAt v i) .context .nonce) x))
       (λ r. record { encrypted = r .0; nonce = r .1 }, λ w. (w .encrypted, w .nonce))
 
   in-directory : (p : InodeNumber) (e : ℕ) → (isIn p (slotAt v e) ≡ true) ↔ EntryIn v p e
@@ -103,9 +104,9 @@ module _ (v : Volume) where
 
   named : (p : InodeNumber) (s : Bytes) (e : ℕ) → (isNamed p s (slotAt v e) ≡ true) ↔ EntryNamed v p s e
   named p s e =
-      Iff·trans (both _ (in-directory p e) _ (bytes (nameOf (slotAt v e)) s)) (λ r. record { entry = r .0; name = r .1 }, λ w. (w .entry, w .name))
+      Iff·trans (both _ (in-directory p e) _ (same-means (nameOf (slotAt v e)) s)) (λ r. record { entry = r .0; name = r .1 }, λ w. (w .entry, w .name))
 
-  links : (i : InodeNumber) (e : ℕ) → (isLink i (slotAt v e) ≡ true) ↔ EntryOf v i e
+  pub links : (i : InodeNumber) (e : ℕ) → (isLink i (slotAt v e) ≡ true) ↔ EntryOf v i e
   links i e =
       Iff·trans
       (both _ (denied _ (equal ((slotAt v e) .len) 0)) _ (numbers ((slotAt v e) .inode) i))

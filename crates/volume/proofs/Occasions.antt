@@ -1,12 +1,13 @@
--- Each refusal on its occasion, computed from the definitions: nearly every request here fails two checks that stand next to each other in document 01's order, and
--- answers the number of the earlier. They rule out an order and a number that no general statement rules out. Assumes nothing.
+-- Each refusal on its occasion, computed from the definitions: most requests here fail two checks that stand next to each other in document 01's order, and
+-- answer the number of the earlier. That a request is refused just when it should be is said in general, by `volume/specs/DoneWhen.antt`. The runs rule out what no
+-- general statement does: the wrong one of two refusals first, and a refusal with another's number. Assumes nothing.
 use Prim.Native.Nat.{ℕ, zero, suc, _+_, _-_}
 use mathlib.Core.Path.{_≡_, refl}
 use mathlib.Core.List.{List, [], _∷_, _++_, map}
 use lib.ListN.{replicate}
 use Rattle.lists.specs.Bytes.{zeros}
 use Rattle.volume.specs.Volume.{inodeSlots, entrySlots}
-use Rattle.volume.specs.Request.{addKey, removeKey, setPolicy, getPolicy, create, link, rename, exchange, remove, find, show, seal, unseal, refused, done, created, at, Encoded}
+use Rattle.volume.specs.Request.{addKey, removeKey, setPolicy, getPolicy, create, link, rename, exchange, remove, find, show, seal, unseal, refused, done, created, at, policyIs, Encoded}
 use Rattle.volume.proofs.Computing.{counted, descriptor, nonce, key, policy, blank, inode, entry, seen, Occasion, _answers_, _leaving_, expected, computed, ran}
 
 -- each request of a list, and what it answers
@@ -124,9 +125,6 @@ occasions =
     ∷ unseal (inode 4) 0 (zeros 4096) answers refused 22
     ∷ unseal (inode 3) 0 (zeros 4096) answers refused 61
     ∷ unseal (inode 9) 0 (zeros 4096) answers refused 126
-    -- each kind that is not a regular file
-    ∷ seal (inode 1) 0 (zeros 4096) answers refused 22
-    ∷ seal (inode 7) 0 (zeros 4096) answers refused 22
     -- the same descriptor with other flags, and a descriptor that differs in its last byte alone, are other policies: link, rename, exchange
     ∷ create (inode 0) 1 (102 ∷ []) (nonce 0) answers created (inode 13) (entry 12)
     ∷ setPolicy (inode 13) (policy 1 7) (nonce 9) answers done
@@ -136,6 +134,53 @@ occasions =
     ∷ rename (entry 1) (inode 13) (122 ∷ []) answers refused 1
     ∷ exchange (entry 1) (entry 13) answers refused 1
     ∷ exchange (entry 13) (entry 1) answers refused 1
+    -- seal and open, each kind that is not a regular file: the encrypted directory 1 with its symlink 15 and special file 7, and the root with its symlink 16 and
+    -- special file 17, where the context lacks too
+    ∷ create (inode 1) 3 (98 ∷ []) (nonce 11) answers created (inode 15) (entry 14)
+    ∷ create (inode 0) 3 (115 ∷ []) (nonce 0) answers created (inode 16) (entry 15)
+    ∷ create (inode 0) 4 (116 ∷ []) (nonce 0) answers created (inode 17) (entry 16)
+    ∷ seal (inode 1) 0 (zeros 4096) answers refused 22
+    ∷ seal (inode 15) 0 (zeros 4096) answers refused 22
+    ∷ seal (inode 7) 0 (zeros 4096) answers refused 22
+    ∷ seal (inode 0) 0 (zeros 4096) answers refused 22
+    ∷ seal (inode 16) 0 (zeros 4096) answers refused 22
+    ∷ seal (inode 17) 0 (zeros 4096) answers refused 22
+    ∷ unseal (inode 1) 0 (zeros 4096) answers refused 22
+    ∷ unseal (inode 15) 0 (zeros 4096) answers refused 22
+    ∷ unseal (inode 7) 0 (zeros 4096) answers refused 22
+    ∷ unseal (inode 0) 0 (zeros 4096) answers refused 22
+    ∷ unseal (inode 16) 0 (zeros 4096) answers refused 22
+    ∷ unseal (inode 17) 0 (zeros 4096) answers refused 22
+    -- set policy: a first one on a plain symlink, and on special files of a plain and of an encrypted directory; another on an encrypted symlink, and its own
+    ∷ setPolicy (inode 16) (policy 0 7) (nonce 1) answers refused 20
+    ∷ setPolicy (inode 17) (policy 0 7) (nonce 1) answers refused 20
+    ∷ setPolicy (inode 7) (policy 0 7) (nonce 1) answers refused 20
+    ∷ setPolicy (inode 15) (policy 1 7) (nonce 1) answers refused 17
+    ∷ setPolicy (inode 15) (policy 0 8) (nonce 1) answers refused 17
+    ∷ setPolicy (inode 15) (policy 0 7) (nonce 1) answers done
+    ∷ getPolicy (inode 15) answers policyIs (policy 0 7)
+    ∷ getPolicy (inode 16) answers refused 61
+    ∷ getPolicy (inode 17) answers refused 61
+    -- a symlink and a special file as parents: before the nonce, the linked directory, and the key
+    ∷ create (inode 15) 2 (122 ∷ []) (nonce 1) answers refused 20
+    ∷ create (inode 17) 2 (122 ∷ []) (nonce 1) answers refused 20
+    ∷ link (inode 4) (inode 15) (122 ∷ []) answers refused 20
+    ∷ link (inode 4) (inode 17) (122 ∷ []) answers refused 20
+    ∷ rename (entry 8) (inode 15) (122 ∷ []) answers refused 20
+    ∷ rename (entry 8) (inode 17) (122 ∷ []) answers refused 20
+    ∷ find (inode 15) (122 ∷ []) answers refused 20
+    ∷ find (inode 17) (122 ∷ []) answers refused 20
+    -- the root is a linked directory too: in one whose key has gone, in a plain one, and in itself under a name that is taken
+    ∷ link (inode 0) (inode 6) (122 ∷ []) answers refused 1
+    ∷ link (inode 0) (inode 4) (122 ∷ []) answers refused 1
+    ∷ link (inode 0) (inode 0) (112 ∷ []) answers refused 1
+    -- a plain symlink is kept out of the encrypted directory, and a special file is not: there its name is what is taken
+    ∷ link (inode 16) (inode 1) (97 ∷ []) answers refused 1
+    ∷ rename (entry 15) (inode 1) (97 ∷ []) answers refused 1
+    ∷ exchange (entry 15) (entry 14) answers refused 1
+    ∷ exchange (entry 14) (entry 15) answers refused 1
+    ∷ link (inode 17) (inode 1) (97 ∷ []) answers refused 17
+    ∷ rename (entry 16) (inode 1) (97 ∷ []) answers refused 17
     -- a wrong key, under which the name does not decrypt
     ∷ addKey (descriptor 8) (key 19) answers done
     ∷ show (entry 8) (zeros 255) answers refused 117

@@ -12,6 +12,8 @@ pub mod Bytewise
 pub mod PolicyClause
 pub mod Meanings
 pub mod DoneWhen
+pub mod Does
+pub mod UnderKeys
 pub mod SealedOpens
 pub mod ShownApart
 pub mod GivenNames

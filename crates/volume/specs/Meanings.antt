@@ -1,5 +1,5 @@
--- What the tests in the definitions of a volume mean: each test that a table of checks, the rules of a sound volume, the policy clause or the two runs lean on is
--- equal, in both directions, to a plain predicate in which no test stands.
+-- What the tests in the definitions of a volume mean: each that is named here, and on which a table of checks, the rules of a sound volume, the policy clause or the
+-- two runs lean, is equal, in both directions, to a plain predicate in which no test stands. What a shown name has to pass is said in DoneWhen.antt: ShowDone.
 -- Sentences in quotation marks are those of documents 00 and 01, in their words. Assumes nothing.
 use Prim.Native.Nat.{ℕ, _≤_, _<_}
 use mathlib.Core.Path.{_≡_}
@@ -8,6 +8,8 @@ use mathlib.Core.Bool.{true, false}
 use lib.ListN.{replicate}
 use lib.Dec.{ltb, leb}
 use Rattle.lists.specs.Bytes.{Bytes}
+use Rattle.errno.specs.Refusals.{number}
+use Rattle.errno.specs.declared.Errno.{Errno}
 use Rattle.errno.specs.declared.Errno.the-variants.{ENOENT, ENOTDIR}
 use Rattle.errno.specs.declared.Checked.the-variants.{Fine, Refused}
 use Rattle.policy.specs.Policies.{policyBytes}
@@ -19,9 +21,16 @@ use Rattle.volume.specs.Checks.{directoryCheck, isPolicyRefused, isBadKi
 use Rattle.volume.specs.Sound.{keyAt, nodeAt, slotAt, Used, EntryIn, EntryOf, Below, KeyLength}
 use Rattle.volume.specs.PolicyClause.{WouldLack}
 use Rattle.ids.specs.declared.InodeNumber.{InodeNumber}
+use Rattle.ids.specs.declared.EntryNumber.{EntryNumber}
 use Rattle.volume.specs.declared.Inode.{Inode}
 use Rattle.volume.specs.declared.Volume.{Volume}
-use Rattle.volume.specs.Request.{Plain, Decrypted, Encoded}
+use Rattle.volume.specs.declared.Form.the-variants.{Plain as IsPlain, Decrypted as IsDecrypted, Encoded as IsEncoded}
+use Rattle.volume.specs.declared.ShownEntry.{ShownEntry as AnsweredEntry}
+use Rattle.volume.specs.declared.Reply.the-variants.{Done, Refused as NotDone}
+use Rattle.volume.specs.declared.CreateAnswer.the-variants.{Created, Refused as NotCreated}
+use Rattle.volume.specs.declared.EntryAnswer.the-variants.{At, Refused as Nowhere}
+use Rattle.volume.specs.declared.ShowAnswer.the-variants.{Shown, Refused as NotShown}
+use Rattle.volume.specs.Request.{refused, done, created, at, policyIs, shown, Plain, Decrypted, Encoded, replied, createAnswered, entryAnswered, policyAnswered, formAnswered, showAnswered}
 
 -- the least number that ..
 pub record Least (P : ℕ → Type 0) (n : ℕ) : Type 0 where
@@ -81,12 +90,31 @@ pub record EntryNamed (v : Volume) (p : InodeNumber) (s : Bytes) (e : ℕ) : Typ
 abbrev pub NameTaken : Volume → InodeNumber → Bytes → Type 0
 NameTaken v p s = (e : ℕ) × EntryNamed v p s e
 
+-- ---- answers
+
+-- what each case of the code's answers stands for
+pub record AnswersStand : Type 0 where
+  pub done-is : replied Done ≡ done
+  pub done-refused : (e : Errno) → replied (NotDone e) ≡ refused (number e)
+  pub created-is : (i : InodeNumber) (e : EntryNumber) → createAnswered (Created i e) ≡ created i e
+  pub create-refused : (e : Errno) → createAnswered (NotCreated e) ≡ refused (number e)
+  pub entry-is : (e : EntryNumber) → entryAnswered (At e) ≡ at e
+  pub entry-refused : (e : Errno) → entryAnswered (Nowhere e) ≡ refused (number e)
+  pub policy-is : (b : Bytes) → policyAnswered Done b ≡ policyIs b
+  pub policy-refused : (e : Errno) (b : Bytes) → policyAnswered (NotDone e) b ≡ refused (number e)
+  -- "the form being plain, read with the key, or shown without it"
+  pub forms : (formAnswered IsPlain ≡ Plain) × (formAnswered IsDecrypted ≡ Decrypted) × (formAnswered IsEncoded ≡ Encoded)
+  pub shown-is : (s : AnsweredEntry)
+      → showAnswered (Shown s) ≡ shown (record { parent = s .parent; inode = s .inode; kind = s .kind; form = formAnswered (s .form); len = s .len })
+  pub show-refused : (e : Errno) → showAnswered (NotShown e) ≡ refused (number e)
+
 -- ---- the tests of numbers and records
 
 pub record PlainMeanings : Type 0 where
+  pub answers : AnswersStand
   pub key-length : (n : ℕ) → (isBadKeyLength n ≡ false) ↔ KeyLength n
   -- "Kinds: 1 folder, 2 regular file, 3 symlink, 4 special"
-  pub kind : (k : ℕ) → (isBadKind k ≡ false) ↔ ((k ≡ 1) ⊎ ((k ≡ 2) ⊎ ((k ≡ 3) ⊎ (k ≡ 4))))
+  pub kind : (k : ℕ) → (isBadKind k ≡ false) ↔ ((1 ≤ k) × (k ≤ 4))
   -- "a special child gets no context, and a child of a plain folder ignores the nonce"
   pub nonce-needed : (dir : Inode) (k : ℕ) → (isNonceNeeded dir k ≡ true) ↔ ((dir .encrypted ≡ true) × (k ≤ 3))
   -- "an encrypted folder would gain a regular file, folder or symlink that lacks that folder's policy"
