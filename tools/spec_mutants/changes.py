@@ -10,7 +10,7 @@ ENDS = "\n⇒;="  # what ends a term that stands in no bracket of its own
 CONSTRUCTOR = re.compile(r"(?<![\w.·′-])[A-Za-z]\w*(?![\w·′₁₂-])")
 
 
-class Place:
+class Spot:
     """A clause in its file: the text, and the code alone, with spaces for comments; and all clauses of the definition."""
 
     def __init__(self, text, clause, clauses, known):
@@ -24,36 +24,36 @@ class Place:
 
 def changes(text, clause, clauses, known):
     """All changes of one of a definition's clauses, without those that change nothing."""
-    place = Place(text, clause, clauses, known)
+    spot = Spot(text, clause, clauses, known)
     for kind in (numbers, exchanges, operands, negations, branches, refusals, constructors, fields, variables, other_clause, table_lines):
-        for name, start, end, new in kind(place):
+        for name, start, end, new in kind(spot):
             if text[start:end] != new:
                 yield name, start, end, new
 
 
-def numbers(place):
+def numbers(spot):
     """A number one higher or lower; not the number by which a field is named."""
-    for found in place.find(NUMBER):
-        named = re.match(r"\s*=[^=]", place.code[found.end():]) and re.search(r"[{;]\s*$", place.code[:found.start()])
+    for found in spot.find(NUMBER):
+        named = re.match(r"\s*=[^=]", spot.code[found.end():]) and re.search(r"[{;]\s*$", spot.code[:found.start()])
         if not named:
             value = int(found[0], 0)
             yield from (("number", *found.span(), str(other)) for other in (value + 1, value - 1) if other >= 0)
 
 
-def exchanges(place):
+def exchanges(spot):
     """Words and operators for their like."""
     for kind, pairs in EXCHANGES.items():
         for old, new in pairs:
             word = rf"(?<![\w.-]){old}(?![\w-])" if old.isalpha() else rf"(?<= ){re.escape(old)}(?= )"
-            yield from ((kind, *found.span(), new) for found in place.find(word))
+            yield from ((kind, *found.span(), new) for found in spot.find(word))
 
 
-def operands(place):
+def operands(spot):
     """What stands left or right of `&&` or `||`, within its bracket, alone."""
-    for found in place.find(r"(?<= )(&&|\|\|)(?= )"):
-        start, end = bracket(place.text, found.start(), place.clause)
-        yield "operand", start, end, place.text[start:found.start()].strip()
-        yield "operand", start, end, place.text[found.end():end].strip()
+    for found in spot.find(r"(?<= )(&&|\|\|)(?= )"):
+        start, end = bracket(spot.text, found.start(), spot.clause)
+        yield "operand", start, end, spot.text[start:found.start()].strip()
+        yield "operand", start, end, spot.text[found.end():end].strip()
 
 
 def bracket(text, at, clause):
@@ -77,22 +77,22 @@ def _over(text, at, opening, closing, step):
         at += step
 
 
-def negations(place):
+def negations(spot):
     """A test without its `not`."""
-    yield from (("not", *found.span(), "") for found in place.find(r"(?<![\w.-])not (?=\()"))
+    yield from (("not", *found.span(), "") for found in spot.find(r"(?<![\w.-])not (?=\()"))
 
 
-def branches(place):
+def branches(spot):
     """The two branches of a `cond` exchanged."""
-    for found in place.find(r"(?<![\w.-])cond "):
+    for found in spot.find(r"(?<![\w.-])cond "):
         at, arguments = found.end(), []
-        while len(arguments) < 3 and at < place.clause.end:
-            end = argument(place.text, at)
+        while len(arguments) < 3 and at < spot.clause.end:
+            end = argument(spot.text, at)
             arguments.append((at, end))
-            at = end + len(place.code[end:]) - len(place.code[end:].lstrip())
+            at = end + len(spot.code[end:]) - len(spot.code[end:].lstrip())
         if len(arguments) == 3:
             (_, _), (a, b), (c, d) = arguments
-            yield "branches", a, d, place.text[c:d] + place.text[b:c] + place.text[a:b]
+            yield "branches", a, d, spot.text[c:d] + spot.text[b:c] + spot.text[a:b]
 
 
 def argument(text, at):
@@ -102,19 +102,19 @@ def argument(text, at):
     return re.compile(r"[^\s();{}]+").match(text, at).end()
 
 
-def refusals(place):
+def refusals(spot):
     """A refusal for the next one of the enum."""
-    every = place.known.errnos()
-    for found in place.find(r"\b[A-Z]+\b"):
+    every = spot.known.errnos()
+    for found in spot.find(r"\b[A-Z]+\b"):
         if found[0] in every:
             yield "errno", *found.span(), every[(every.index(found[0]) + 1) % len(every)]
 
 
-def constructors(place):
+def constructors(spot):
     """A constructor for another of its type that binds the same."""
-    for found in place.find(CONSTRUCTOR):
-        if found[0] not in place.clause.variables:
-            yield from (("alike", *found.span(), other) for other in others(found[0], place.known.like_constructors(found[0])))
+    for found in spot.find(CONSTRUCTOR):
+        if found[0] not in spot.clause.variables:
+            yield from (("alike", *found.span(), other) for other in others(found[0], spot.known.like_constructors(found[0])))
 
 
 def others(word, alike):
@@ -126,62 +126,62 @@ def others(word, alike):
     return [other for other in alike if other != word]
 
 
-def fields(place):
+def fields(spot):
     """A field for another of the same record and type."""
-    for found in place.find(FIELD):
-        for other in others(found[1], place.known.like_fields(found[1], owner(place, found.start()))):
+    for found in spot.find(FIELD):
+        for other in others(found[1], spot.known.like_fields(found[1], owner(spot, found.start()))):
             yield "alike", *found.span(), "." + other
 
 
-def owner(place, at):
+def owner(spot, at):
     """The type of what a field is taken of, where it is a variable, or a field of one; else nothing."""
-    chain = re.search(r"(?:^|[\s(])([^\s().]+)((?: \.\w+)*) $", place.code[:at])
-    before = place.code[:chain.start(1)].rstrip() if chain else ""
-    if not chain or not before.endswith(("(", "=", ";", "{", "∷", "⇒", "do", "in")) and "\n" not in place.code[len(before):chain.start(1)]:
+    chain = re.search(r"(?:^|[\s(])([^\s().]+)((?: \.\w+)*) $", spot.code[:at])
+    before = spot.code[:chain.start(1)].rstrip() if chain else ""
+    if not chain or not before.endswith(("(", "=", ";", "{", "∷", "⇒", "do", "in")) and "\n" not in spot.code[len(before):chain.start(1)]:
         return None
-    kind = place.clause.variables.get(chain[1])
+    kind = spot.clause.variables.get(chain[1])
     for field in re.findall(r"\.(\w+)", chain[2]):
-        kind = place.known.records.get(kind, {}).get(field)
+        kind = spot.known.records.get(kind, {}).get(field)
     return kind
 
 
-def variables(place):
+def variables(spot):
     """A variable for another of the same type; not the name of a field that is given a value."""
-    known = place.clause.variables
+    known = spot.clause.variables
     for old, new in ((old, new) for old in known for new in known if old != new and known[old] == known[new]):
-        for found in place.find(rf"(?<![\w.·′-]){re.escape(old)}(?![\w·′₁₂-])"):
-            bound = re.match(r"\s*(:|=[^=])", place.code[found.end():])
+        for found in spot.find(rf"(?<![\w.·′-]){re.escape(old)}(?![\w·′₁₂-])"):
+            bound = re.match(r"\s*(:|=[^=])", spot.code[found.end():])
             if not bound:
                 yield "variable", *found.span(), new
 
 
-def other_clause(place):
+def other_clause(spot):
     """The right-hand side of the next clause whose variables this one has too."""
-    here = place.clauses.index(place.clause)
-    own = place.text[place.clause.start:place.clause.end]
-    for other in [*place.clauses[here + 1:], *place.clauses[:here]]:
-        body = place.text[other.start:other.end]
+    here = spot.clauses.index(spot.clause)
+    own = spot.text[spot.clause.start:spot.clause.end]
+    for other in [*spot.clauses[here + 1:], *spot.clauses[:here]]:
+        body = spot.text[other.start:other.end]
         used = [(name, kind) for name, kind in other.variables.items() if re.search(rf"(?<![\w.·′-]){re.escape(name)}(?![\w·′₁₂-])", body)]
-        if body.strip() != own.strip() and all(place.clause.variables.get(name) == kind for name, kind in used):
+        if body.strip() != own.strip() and all(spot.clause.variables.get(name) == kind for name, kind in used):
             space = " " * (own.startswith("\n") and not body.startswith("\n"))
-            yield "clause", place.clause.start, place.clause.end, space + body
+            yield "clause", spot.clause.start, spot.clause.end, space + body
             return
 
 
-def table_lines(place):
+def table_lines(spot):
     """Two lines of a table exchanged, and one line left out."""
-    table = next(place.find(r"\bdo *\n"), None)
+    table = next(spot.find(r"\bdo *\n"), None)
     if not table:
         return
     rows, at = [], table.end()
-    for line in place.text[at:place.clause.end].split("\n"):
+    for line in spot.text[at:spot.clause.end].split("\n"):
         rows.append((at, at + len(line)))
         at += len(line) + 1
     for (a, b), (c, d) in zip(rows, rows[1:]):
-        if place.text[c:d].strip() != "Fine":
-            yield "swap-lines", a, d, place.text[c:d] + "\n" + place.text[a:b]
+        if spot.text[c:d].strip() != "Fine":
+            yield "swap-lines", a, d, spot.text[c:d] + "\n" + spot.text[a:b]
         yield "delete-line", a, c, ""
     a, b = rows[-1]
-    if place.text[a:b].strip() != "Fine":
-        indent = len(place.text[a:b]) - len(place.text[a:b].lstrip())
+    if spot.text[a:b].strip() != "Fine":
+        indent = len(spot.text[a:b]) - len(spot.text[a:b].lstrip())
         yield "delete-line", a, b, " " * indent + "Fine"

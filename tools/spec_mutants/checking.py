@@ -31,13 +31,13 @@ class Error(NamedTuple):
     text: str
 
 
-def prove(folder, crate):
+def prove(directory, crate):
     """The prover's exit status and words of one crate of a theory. RT may name another command than `rt`."""
     command = [*shlex.split(os.environ.get("RT", "rt")), "dev", crate]
     with _lock:
         if _ended.is_set():
             raise Ended
-        process = subprocess.Popen(command, cwd=folder, env=dict(os.environ, RT_CUT="0", RT_JOBS="1"), stdout=subprocess.PIPE,
+        process = subprocess.Popen(command, cwd=directory, env=dict(os.environ, RT_CUT="0", RT_JOBS="1"), stdout=subprocess.PIPE,
                                    stderr=subprocess.STDOUT, start_new_session=True)
         _running.add(process)
     said = process.communicate()[0].decode("utf-8", "replace")
@@ -58,24 +58,24 @@ def end():
                 pass
 
 
-def errors(folder, said):
+def errors(directory, said):
     """The errors that are a file's own."""
     found = []
     for root, crate, file, text in ERROR.findall(said):
-        if Path(root) == folder and not any(word in text for word in NOT_ITS_OWN):
+        if Path(root) == directory and not any(word in text for word in NOT_ITS_OWN):
             law = re.match(r"`([^`]+)`: ", text)
             found.append(Error(crate, file, law[1] if law else "?", text[:160]))
     return found
 
 
-def judged(folder, chain):
+def judged(directory, chain):
     """The verdict on a changed theory: its crates are proved one after the other, up to the first that is refused."""
     began, checked = time.monotonic(), []
     for crate in chain:
-        status, said = prove(folder, crate)
+        status, said = prove(directory, crate)
         checked.append(crate)
         if status:
-            verdict, laws = _verdict(errors(folder, said), said)
+            verdict, laws = _verdict(errors(directory, said), said)
             break
     else:
         verdict, laws = "unnoticed", []

@@ -34,7 +34,7 @@ class Definition(NamedTuple):
 
 
 class Lines:
-    """The lines of a text, with their places in it."""
+    """The lines of a text, with their spots in it."""
 
     def __init__(self, text):
         self.text, self.lines, self.starts = text, text.split("\n"), [0]

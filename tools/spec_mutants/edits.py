@@ -48,7 +48,7 @@ def _parts(path):
             parts.append([file, old, rest])
             old = None
         elif line.strip():
-            raise Missing(f"{path}: a line that is no file:, old: or new: in its place: {line}")
+            raise Missing(f"{path}: a line that is no file:, old: or new: in its spot: {line}")
     if not parts or old is not None:
         raise Missing(f"{path}: it wants file:, old: and new:")
     return title, parts

@@ -3,9 +3,9 @@
 import json
 import threading
 
-from .theory import FOLDER
+from .theory import DIRECTORY
 
-FILE = FOLDER / "results.jsonl"
+FILE = DIRECTORY / "results.jsonl"
 _lock = threading.Lock()
 
 

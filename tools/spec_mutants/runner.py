@@ -81,7 +81,7 @@ def _deal(work, found):
             except Empty:
                 return
             with theory.changed(changed):
-                verdict = checking.judged(theory.folder, crates)
+                verdict = checking.judged(theory.directory, crates)
             results.record({**verdict, **row, "digest": digest(theory.files)})
 
     _each([lambda theory=theory: worker(theory) for theory in found])

@@ -4,13 +4,13 @@
 # are in a theory, and a mutant that its own crate's laws do not notice goes on to these.
 TOPS = ("volume", "names")
 
-# The files of proofs/ whose theorems are closed statements that antt computes (`refl`). Such a theorem can't fail for its proof's text, so a mutant
-# that one of them refuses is wrong for sure. That a file is one of these is not said in it.
+# The files of proofs/ whose theorems are closed statements: most are computed by antt (`refl`), and can't fail for their proofs' text, so a mutant that
+# one of them refuses is wrong for sure. Unsound's refutations and fscrypt's Published, which carries those of ciphers, have proofs of a line or two.
 EXAMPLES = {"Example", "Occasions", "Values", "KeyedExample", "MeaningsExample", "Starred", "Unsound", "Published"}
 
-# Files of specs/ that state what is proved: what a test means, when a request is done, worked cases, what may differ between two runs. A weaker
+# Files of specs/ that state what is proved: what a test means, when a request is done and what it does, worked cases, what may differ between two runs. A weaker
 # statement is still proved, so a change there tells nothing of the definitions.
-STATEMENT_FILES = {"Cases", "Claims", "DoneWhen", "Meanings", "RoundTrips", "TwoRuns"}
+STATEMENT_FILES = {"Cases", "Claims", "Does", "DoneWhen", "Meanings", "RoundTrips", "TwoRuns", "UnderKeys"}
 
 # Definitions elsewhere that are parts of statements alone, though they are values. Definitions that are types, and records, need not stand here:
 # whatever has a type as its value is a statement or a part of one.

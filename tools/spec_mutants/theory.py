@@ -11,7 +11,7 @@ from contextlib import contextmanager
 from . import tree
 from .checking import errors, prove
 
-FOLDER = tree.ROOT / "target" / "theory"
+DIRECTORY = tree.ROOT / "target" / "theory"
 FUNCTION = re.compile(r'(pub )?(extern "C" )?fn |impl ')
 USE_OF_FUNCTION = re.compile(r"(pub )?use (.*::)?[a-z_0-9]+;$")
 
@@ -52,23 +52,23 @@ def digest(files):
 
 
 class Theory:
-    """One copy, in a folder of its own."""
+    """One copy, in a directory of its own."""
 
     def __init__(self, number, files):
-        self.folder, self.files = FOLDER / str(number), files
-        self.mark = self.folder / "proved"
+        self.directory, self.files = DIRECTORY / str(number), files
+        self.mark = self.directory / "proved"
 
     def renew(self):
         """Makes its files those of the repository, and removes others; what the prover left stays."""
-        for path in self.folder.glob("crates/**/*.*"):
-            if path.is_file() and str(path.relative_to(self.folder)) not in self.files:
+        for path in self.directory.glob("crates/**/*.*"):
+            if path.is_file() and str(path.relative_to(self.directory)) not in self.files:
                 path.unlink()
         self.write(self.files)
 
     def write(self, files):
         """Writes files that differ."""
         for name, text in files.items():
-            path = self.folder / name
+            path = self.directory / name
             path.parent.mkdir(parents=True, exist_ok=True)
             if not path.exists() or path.read_text() != text:
                 path.write_text(text)
@@ -90,9 +90,9 @@ class Theory:
     def prove(self):
         """Proves each crate, unless it was proved as it is."""
         for crate in [] if self.proved else tree.theory_crates():
-            status, said = prove(self.folder, crate)
+            status, said = prove(self.directory, crate)
             if status:
-                raise NotProved(f"{crate} of {self.folder} is not proved:\n" + ("\n".join(map(str, errors(self.folder, said)[:12])) or said[-2000:]))
+                raise NotProved(f"{crate} of {self.directory} is not proved:\n" + ("\n".join(map(str, errors(self.directory, said)[:12])) or said[-2000:]))
             print(f"theory: {crate} proved", flush=True)
         self.mark.write_text(digest(self.files))
 
@@ -100,18 +100,18 @@ class Theory:
         """Makes it a copy of a proved one, with what the prover left there."""
         self.renew()
         if not self.proved:
-            shutil.rmtree(self.folder)
-            shutil.copytree(other.folder, self.folder)
+            shutil.rmtree(self.directory)
+            shutil.copytree(other.directory, self.directory)
 
 
 @contextmanager
 def alone():
     """One run at a time, for two would change the same files. A run that is ended puts them back."""
-    FOLDER.mkdir(parents=True, exist_ok=True)
-    with open(FOLDER / "lock", "w") as lock:
+    DIRECTORY.mkdir(parents=True, exist_ok=True)
+    with open(DIRECTORY / "lock", "w") as lock:
         try:
             fcntl.flock(lock, fcntl.LOCK_EX | fcntl.LOCK_NB)
         except OSError:
-            raise NotProved(f"another run is under way in {FOLDER}") from None
+            raise NotProved(f"another run is under way in {DIRECTORY}") from None
         signal.signal(signal.SIGTERM, lambda *_: sys.exit(143))
         yield

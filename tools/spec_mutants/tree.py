@@ -37,10 +37,10 @@ def sources(crate):
 
 def specs(crate):
     """The files of a crate's definitions, in the order in which specs/Lib.antt names them."""
-    folder = ROOT / "crates" / crate / "specs"
-    if not folder.is_dir():
+    directory = ROOT / "crates" / crate / "specs"
+    if not directory.is_dir():
         return []
-    return [folder / f"{name}.antt" for name in re.findall(r"\bmod (\w+)", (folder / "Lib.antt").read_text())]
+    return [directory / f"{name}.antt" for name in re.findall(r"\bmod (\w+)", (directory / "Lib.antt").read_text())]
 
 
 def laws(crate):
