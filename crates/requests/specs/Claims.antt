@@ -33,7 +33,7 @@ ClimbEnds C =
     (rs : List Request) → AllTyped rs → (m : Moment) → List·Memᴰ m (run C rs)
     → (moved p : InodeNumber) → (inodeAt (m .volume) p) .kind ≡ 1 → climbFrom (m .volume) moved inodeSlots p ≢ Neither
 
--- each test that a request leans on means what it is to mean, in both directions: those of byte strings, of tables of checks, of policies, of names, of numbers and records,
+-- the tests that these records name mean what they are to mean, in both directions: those of byte strings, of tables of checks, of policies, of names, of numbers and records,
 -- and those on a volume, fresh or after any request of any list
 pub record TestsMean (C : Cipher) : Type 0 where
   pub byte-strings : ByteMeanings

@@ -30,7 +30,7 @@ pub fn the_climb_ends()
     ensures { λ _. ⌜ ClimbEnds fscrypt ⌝ }
 {}
 
-// Each test that a request leans on is equal, in both directions, to a plain predicate; those on a volume, fresh and after every request of every list.
+// The tests that these records name are equal, in both directions, to plain predicates; those on a volume, fresh and after every request of every list.
 pub fn tests_mean_what_they_say()
     ensures { λ _. ⌜ TestsMean fscrypt ⌝ }
 {}
