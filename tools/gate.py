@@ -1,13 +1,14 @@
 #!/usr/bin/env python3
-"""Writes the tables of docs/GATE.md from what the gate printed: the time of each crate and of its must-fail edits, and where each edit was refused.
+"""Writes the table of docs/GATE.md from what the gate printed, where each must-fail edit was refused; and prints the times for a note of docs/changes.
 
-    .ci/run > LOG; tools/gate.py LOG    replaces the page from its first table on
+    .ci/run > LOG; tools/gate.py LOG    replaces the page from its table on
+    tools/gate.py times LOG             prints the time of each crate and of its edits; LOG may be of `rt check` or `rt prove` too
 
-Run it in the tree in which the gate ran (where that is a clone, run the clone's own): beside LOG it reads what the prover said of each edit, which
-stands in that tree, at target/must-fail/CRATE/EDIT/.log.
+The first is run in the tree in which the gate ran (where that is a clone, run the clone's own): beside LOG it reads what the prover said of each edit,
+which stands in that tree, at target/must-fail/CRATE/EDIT/.log.
 
 It stops where an edit was refused for its own wording (a name that is not in scope, a definition that no longer reads, a proof that no longer fits
-the code), for such an edit shows nothing. The head of the page, with the whole time and the machine, is written by hand.
+the code), for such an edit shows nothing. The head of the page is written by hand.
 
 It needs Debian's python3, 3.11.
 """
@@ -19,7 +20,7 @@ from typing import NamedTuple
 
 ROOT = Path(__file__).resolve().parent.parent
 PAGE = ROOT / "docs" / "GATE.md"
-START = "| Crate | proved in | must-fail edits | their time |"
+START = "| Edit | What it does | First at | Also refused |"
 
 PROVED = re.compile(r"^rt: (\w+) proved \((\d+) s\)", re.M)
 REFUSED = re.compile(r"^rt: must-fail (\w+)/(\w+): refused, as it must be \(first at ([^:;]+):(\d+)[^;]*; (\d+) s\)", re.M)
@@ -96,11 +97,15 @@ def also_refused(edit, first):
     return names[1:MOST_NAMES + 1]
 
 
+def refused(log):
+    """The edits of a log, in its order."""
+    return [Edit(crate, name, file, int(line), int(seconds)) for crate, name, file, line, seconds in REFUSED.findall(log)]
+
+
 def edits(log):
     """All edits of the tree, in the log's order. Stops where the log is of another tree, or an edit shows nothing."""
     written = {(path.parts[-3], path.stem) for path in ROOT.glob("crates/*/must-fail/*.edit")}
-    found = [Edit(crate, name, file, int(line), int(seconds)) for crate, name, file, line, seconds in REFUSED.findall(log)]
-    tried = [edit for edit in found if edit[:2] in written]
+    tried = [edit for edit in refused(log) if edit[:2] in written]
     if len(tried) < len(written) or " 0 failed" not in log:
         sys.exit("the log is not of a gate that passed on this tree: an edit is missing from it, or no line says '0 failed'")
     for edit in tried:
@@ -110,19 +115,9 @@ def edits(log):
     return tried
 
 
-def crate_table(log, tried):
-    """The lines of the first table: a crate's time, and the number and time of its edits."""
-    proved = {crate: int(seconds) for crate, seconds in PROVED.findall(log)}
-    yield from (START, "|---|---|---|---|")
-    for crate, seconds in proved.items():
-        own = [edit.seconds for edit in tried if edit.crate == crate]
-        yield f"| `{crate}` | {seconds} s | {len(own)} | {f'{sum(own)} s' if own else ''} |"
-    yield f"| all | {sum(proved.values())} s | {len(tried)} | {sum(edit.seconds for edit in tried)} s |"
-
-
 def edit_table(tried):
-    """The lines of the second table: what each edit does, and what refused it."""
-    yield from ("| Edit | What it does | First at | Also refused |", "|---|---|---|---|")
+    """The lines of the page's table: what each edit does, and what refused it."""
+    yield from (START, "|---|---|---|---|")
     for edit in tried:
         first = declared(edit.copy / edit.file, edit.line)
         also = ", ".join(f"`{name}`" for name in also_refused(edit, first))
@@ -130,24 +125,32 @@ def edit_table(tried):
         yield f"| `{edit.crate}/{edit.name}` | {aim} | `{edit.file}`: `{first}` | {also} |"
 
 
-LEGEND = f"""
-## Must-fail edits
-
-"First at" is the file below the crate, and what the line that was first refused proves; of a function without a proof file, the function. "Also refused"
-has up to {MOST_NAMES} more functions and laws with an error of their own; those that fail only because what they call or cite does are left out.
-"""
+def time_table(log):
+    """The lines of a note's table: a crate's time, and the number and time of its edits."""
+    proved = {crate: int(seconds) for crate, seconds in PROVED.findall(log)}
+    tried = refused(log)
+    yield from ("| Crate | proved in | must-fail edits | their time |", "|---|---|---|---|")
+    for crate, seconds in proved.items():
+        own = [edit.seconds for edit in tried if edit.crate == crate]
+        yield f"| `{crate}` | {seconds} s | {len(own) or ''} | {f'{sum(own)} s' if own else ''} |"
+    total = f"{len(tried)} | {sum(edit.seconds for edit in tried)} s" if tried else " | "
+    yield f"| all {len(proved)} | {sum(proved.values())} s | {total} |"
 
 
 def main():
     parser = argparse.ArgumentParser(description=__doc__, formatter_class=argparse.RawDescriptionHelpFormatter)
+    parser.add_argument("command", nargs="?", choices=["times"], help="print the times; without it, write the page's table")
     parser.add_argument("log", type=Path, metavar="LOG", help="what the gate printed")
+    asked = parser.parse_args()
     try:
-        log = parser.parse_args().log.read_text()
+        log = asked.log.read_text()
     except OSError as wrong:
         parser.error(str(wrong))
-    tried = edits(log)
+    if asked.command == "times":
+        print(*time_table(log), sep="\n")
+        return
     head = PAGE.read_text().split(START)[0]
-    PAGE.write_text(head + "\n".join([*crate_table(log, tried), LEGEND, *edit_table(tried)]) + "\n")
+    PAGE.write_text(head + "\n".join(edit_table(edits(log))) + "\n")
 
 
 if __name__ == "__main__":
