@@ -44,7 +44,9 @@ def missing(span):
 
 wrong = []
 for page in sorted(PAGES):
-    text = re.sub(r"```.*?```", "", page.read_text(), flags=re.S).replace("`: `", ": ")
-    wrong += [f"{page.relative_to(ROOT)}: `{span}`: {name} is not there" for span in re.findall(r"`([^`\n]+)`", text) for name in missing(span)]
+    text = re.sub(r"```.*?```", "", page.read_text(), flags=re.S)
+    for part in re.split(r"\n(?=\s*\n|\||\s*- )", text):  # a paragraph, a row or an item of a list, on one line
+        line = re.sub(r"\s*\n\s*", " ", part).replace("`: `", ": ")
+        wrong += [f"{page.relative_to(ROOT)}: `{span}`: {name} is not there" for span in re.findall(r"`([^`]+)`", line) for name in missing(span)]
     wrong += [f"{page.relative_to(ROOT)}: link to {to}" for to in re.findall(r"\]\(([^)#]+)", text) if not (page.parent / to).exists()]
 sys.exit("\n".join(wrong) or 0)
