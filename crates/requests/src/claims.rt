@@ -9,7 +9,7 @@ ghost use Rattle.volume.specs.DoneWhen.{DoneWhen};
 ghost use Rattle.volume.specs.UnderKeys.{UnderKeys};
 ghost use Rattle.volume.specs.PolicyClause.{PolicyClause};
 ghost use Rattle.volume.specs.SealedOpens.{SealedOpens};
-ghost use Rattle.volume.specs.Request.{AllTyped, thirteen};
+ghost use Rattle.volume.specs.Request.{AllTyped, eachRequest};
 ghost use Rattle.volume.specs.TwoRuns.{TwoRuns};
 ghost use Rattle.volume.specs.KeyedNames.{EveryRunKeyed};
 ghost use Rattle.requests.specs.Claims.{AlwaysSound, ClimbEnds, PromiseKept, TestsMean};
@@ -66,7 +66,7 @@ fn are_bytes(s: &[u8])
     nothing();
 }
 
-// What the claims ask of a list, its types say: whatever its parts are, each of the thirteen requests may stand in it.
+// What the claims ask of a list, its types say: whatever its parts are, each of the requests may stand in it.
 pub fn every_request_is_typed(
     i: InodeNumber,
     p: InodeNumber,
@@ -78,7 +78,7 @@ pub fn every_request_is_typed(
     x: [u8; 16],
     s: &[u8],
 )
-    ensures { λ _. ⌜ AllTyped (thirteen i p a b kind number d x (now (s .entry))) ⌝ }
+    ensures { λ _. ⌜ AllTyped (eachRequest i p a b kind number d x (now (s .entry))) ⌝ }
 {
     are_bytes(&d);
     are_bytes(&x);

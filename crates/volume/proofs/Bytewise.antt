@@ -15,7 +15,7 @@ use Rattle.fscrypt.specs.Cipher.{Cipher, Lawful}
 use Rattle.fscrypt.specs.Names.{encrypted}
 use Rattle.fscrypt.proofs.Padding.{padded-bytes}
 use Rattle.volume.specs.Volume.{keySlots, inodeSlots, entrySlots, noKey, noInode, noEntry, keySlot, entrySlot, fresh}
-use Rattle.volume.specs.Request.{Request, addKey, removeKey, setPolicy, getPolicy, create, link, rename, exchange, remove, find, show, seal, unseal, Typed, AllTyped}
+use Rattle.volume.specs.Request.{Request, Typed, AllTyped}
 use Rattle.volume.specs.Lookup.{keySlotOf, keyOf, masterKey, descriptorOf, inodeAt, freeKeySlot, freeInode, entryAt, freeEntry, isHeld}
 use Rattle.volume.specs.DirectoryNames.{derivedKey, nameKey, stored}
 use Rattle.volume.specs.Checks.{isNonceNeeded}
@@ -29,6 +29,7 @@ use Rattle.volume.specs.declared.Inode.{Inode}
 use Rattle.volume.specs.declared.Entry.{Entry}
 use Rattle.volume.specs.declared.Volume.{Volume}
 use Rattle.volume.proofs.Kept.{volume-has, kept-always}
+use Rattle.volume.proofs.Touching.{Touches, asks, adds-key, removes-key, sets-policy, creates, links, renames, exchanges, removes, touches}
 
 -- ---- tables
 
@@ -130,33 +131,29 @@ module _ (C : Cipher) (law : Lawful C) (v : Volume) (w : Bytewise v) where
 
   -- ---- requests
 
-  effect-bytes : (r : Request) → Typed r → Bytewise ((effect C v r) .volume)
+  effect-bytes : {r : Request} → Touches r → Typed r → Bytewise ((effect C v r) .volume)
   unfolding effect withoutUnheld
-  effect-bytes (addKey d k) t = by-tables _ (set-key (v .keys) ks (freeKeySlot v) (keySlot d k) (filled-bytes k _ (t .2), t .1)) is (w .names)
-  effect-bytes (removeKey d) t = by-tables _ (set-key (v .keys) ks (keySlotOf v d) noKey no-key) is (w .names)
-  effect-bytes (setPolicy i p x) t =
+  effect-bytes (asks answers leaves unnaming) t = subst Bytewise (sym (leaves C v)) w
+  effect-bytes (adds-key d k) t = by-tables _ (set-key (v .keys) ks (freeKeySlot v) (keySlot d k) (filled-bytes k _ (t .2), t .1)) is (w .names)
+  effect-bytes (removes-key d) t = by-tables _ (set-key (v .keys) ks (keySlotOf v d) noKey no-key) is (w .names)
+  effect-bytes (sets-policy i p x) t =
       by-cond Bytewise (inodeAt v i .encrypted) _ _ (λ e. w) (λ e. by-tables _ ks (set-inode (v .inodes) is (i .0) _ (read-bytes p (t .0), t .2)) (w .names))
-  effect-bytes (getPolicy i) t = w
-  effect-bytes (create p kind n x) t =
+  effect-bytes (creates p kind n x) t =
       by-tables _ ks (set-inode (v .inodes) is (freeInode v) _ (child-bytes (inodeAt v p) kind x (is (p .0)) (t .2)))
       (store-name (freeEntry v) p (record { 0 = freeInode v }) n (t .0))
-  effect-bytes (link i p n) t = by-tables _ ks is (store-name (freeEntry v) p i n t)
-  effect-bytes (rename e p n) t = by-tables _ ks is (store-name (e .0) p (entryAt v e .inode) n t)
-  effect-bytes (exchange a b) t =
+  effect-bytes (links i p n) t = by-tables _ ks is (store-name (freeEntry v) p i n t)
+  effect-bytes (renames e p n) t = by-tables _ ks is (store-name (e .0) p (entryAt v e .inode) n t)
+  effect-bytes (exchanges a b) t =
       let one = withInode (entryAt v a) (entryAt v b .inode) in
       let other = withInode (entryAt v b) (entryAt v a .inode) in
       by-tables _ ks is (set-entry (set (v .entries) (a .0) one) (set-entry (v .entries) (w .names) (a .0) one (w .names (a .0))) (b .0) other (w .names (b .0)))
-  effect-bytes (remove e) t =
+  effect-bytes (removes e) t =
       by-tables _ ks (by-cond AllInodes (isHeld _ _) _ _ (λ h. is) (λ h. set-inode (v .inodes) is _ noInode no-inode))
       (set-entry (v .entries) (w .names) (e .0) noEntry no-entry)
-  effect-bytes (find p n) t = w
-  effect-bytes (show e b) t = w
-  effect-bytes (seal i n b) t = w
-  effect-bytes (unseal i n b) t = w
 
 module _ (C : Cipher) (law : Lawful C) where
   pub bytewise-kept : (v : Volume) → Bytewise v → (r : Request) → Typed r → Bytewise ((step C v r) .volume)
-  bytewise-kept v w r t = volume-has C v r Bytewise w (λ h. effect-bytes C law v w r t)
+  bytewise-kept v w r t = volume-has C v r Bytewise w (λ h. effect-bytes C law v w (touches r) t)
 
   pub bytewise : (rs : List Request) → AllTyped rs → (m : Moment) → List·Memᴰ m (run C rs) → Bytewise (m .volume)
   bytewise = kept-always C Bytewise fresh-bytes bytewise-kept

@@ -13,7 +13,7 @@ use Rattle.lists.proofs.Slots.{by-eq, by-cond, within}
 use Rattle.policy.specs.Policies.{readPolicy}
 use Rattle.fscrypt.specs.Cipher.{Cipher, Lawful}
 use Rattle.volume.specs.Volume.{noInode, noEntry, encryptedInode}
-use Rattle.volume.specs.Request.{Request, AllTyped, addKey, removeKey, setPolicy, getPolicy, create, link, rename, exchange, remove, find, show, seal, unseal}
+use Rattle.volume.specs.Request.{Request, AllTyped}
 use Rattle.volume.specs.Lookup.{inodeAt, isFree, entryAt, isHeld}
 use Rattle.volume.specs.Step.{childOf, withoutUnheld, withInodes, effect, step}
 use Rattle.volume.specs.Run.{Moment, runFrom}
@@ -23,6 +23,7 @@ use Rattle.ids.specs.declared.InodeNumber.{InodeNumber}
 use Rattle.volume.specs.declared.Inode.{Inode}
 use Rattle.volume.specs.declared.Volume.{Volume}
 use Rattle.volume.proofs.Kept.{volume-has, kept-while}
+use Rattle.volume.proofs.Touching.{Touches, asks, adds-key, removes-key, sets-policy, creates, links, renames, exchanges, removes, touches}
 use Rattle.volume.proofs.SoundCreate.{free-kept}
 use Rattle.volume.proofs.Soundness.{sound-kept}
 
@@ -49,28 +50,24 @@ module _ (C : Cipher) (v : Volume) (s : Sound v) (i : InodeNumber) (t : (inodeAt
       absurd (true≢false (sym (ap isFree gone) ∙ u)))
       (λ ne. getD-set-other (v .inodes) (j .0) (i .0) noInode noInode ne)
 
-  effect-kept : (r : Request) → Kept v ((effect C v r) .volume) i
+  effect-kept : {r : Request} → Touches r → Kept v ((effect C v r) .volume) i
   unfolding effect withoutUnheld
-  effect-kept (addKey d k) = λ u. refl
-  effect-kept (removeKey d) = λ u. refl
-  effect-kept (setPolicy j p x) = by-cond (λ (w : Volume). Kept v w i) ((inodeAt v j) .encrypted) _ _ (λ e u. refl) (policy-kept j p x)
-  effect-kept (getPolicy j) = λ u. refl
-  effect-kept (create p kind n x) = λ u. free-kept v (childOf (inodeAt v p) kind x) (i .0) is-there
-  effect-kept (link j p n) = λ u. refl
-  effect-kept (rename e p n) = λ u. refl
-  effect-kept (exchange a b) = λ u. refl
-  effect-kept (remove e) =
+  effect-kept (asks answers leaves unnaming) = λ u. ap (λ (w : Volume). inodeAt w i) (leaves C v)
+  effect-kept (adds-key d k) = λ u. refl
+  effect-kept (removes-key d) = λ u. refl
+  effect-kept (sets-policy j p x) = by-cond (λ (w : Volume). Kept v w i) ((inodeAt v j) .encrypted) _ _ (λ e u. refl) (policy-kept j p x)
+  effect-kept (creates p kind n x) = λ u. free-kept v (childOf (inodeAt v p) kind x) (i .0) is-there
+  effect-kept (links j p n) = λ u. refl
+  effect-kept (renames e p n) = λ u. refl
+  effect-kept (exchanges a b) = λ u. refl
+  effect-kept (removes e) =
       let es = set (v .entries) (e .0) noEntry in
       let j = entryAt v e .inode in
       by-cond (λ (is : List Inode). isFree (getD is (i .0) noInode) ≡ false → getD is (i .0) noInode ≡ inodeAt v i) (isHeld es j) (v .inodes) (set (v .inodes) (j .0) noInode)
       (λ h u. refl) (λ h. unheld-kept j)
-  effect-kept (find p n) = λ u. refl
-  effect-kept (show e b) = λ u. refl
-  effect-kept (seal j k b) = λ u. refl
-  effect-kept (unseal j k b) = λ u. refl
 
   step-kept : (r : Request) → Kept v ((step C v r) .volume) i
-  step-kept r = volume-has C v r (λ (w : Volume). Kept v w i) (λ u. refl) (λ h. effect-kept r)
+  step-kept r = volume-has C v r (λ (w : Volume). Kept v w i) (λ u. refl) (λ h. effect-kept (touches r))
 
 module _ (C : Cipher) (law : Lawful C) (i : InodeNumber) where
   pub context-stays : (rs : List Request) (v : Volume) → Sound v → AllTyped rs → (inodeAt v i) .encrypted ≡ true → Stays C v rs i

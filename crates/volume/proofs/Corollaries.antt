@@ -13,11 +13,13 @@ use lib.Dec.{leb}
 use Rattle.lists.specs.Bytes.{Bytes, zeros}
 use Rattle.fscrypt.specs.Cipher.{Cipher, Lawful, fscrypt}
 use Rattle.fscrypt.proofs.Lawfulness.{fscrypt-lawful}
-use Rattle.volume.specs.Request.{Request, addKey, removeKey, setPolicy, getPolicy, create, link, rename, exchange, remove, find, show, seal, unseal, Answer, refused, done, created, at, policyIs, shown, Typed, AllTyped, ShownEntry, Form, Plain, Decrypted, Encoded}
+use Rattle.volume.specs.Request.{Request, addKey, show, Typed, AllTyped, Lent, no-buffer, key-buffer, name-buffer, block-buffer, lends, Form, Plain, Decrypted, Encoded, ShownEntry, Answer, refused, shown, refusalIn, shownIn, Outcome}
+use Rattle.volume.specs.Volume.{fresh}
 use Rattle.volume.specs.Lookup.{inodeAt}
-use Rattle.volume.specs.Run.{Moment, run}
+use Rattle.volume.specs.Step.{step}
+use Rattle.volume.specs.Run.{Moment, momentOf, runFrom, run}
 use Rattle.volume.specs.GivenNames.{given}
-use Rattle.volume.specs.TwoRuns.{SameButKeys, OneKeyEach, blankRequest, blankStart, blankKey, blankEntry, blankVolume, blankLetters, blankShown, blankName, blankBlock, blankBuffer, blank, Agree, TwoRuns}
+use Rattle.volume.specs.TwoRuns.{SameButKeys, no-more, same-request, other-key, OneKeyEach, blankStart, blankKey, blankEntry, blankVolume, blankLetters, blankShown, blankName, blankBlock, blankBuffer, blank, Agree, TwoRuns}
 use Rattle.ids.specs.declared.EntryNumber.{EntryNumber}
 use Rattle.volume.specs.declared.Key.{Key}
 use Rattle.volume.specs.declared.Inode.{Inode}
@@ -34,14 +36,6 @@ two-runs-fscrypt = two-runs fscrypt fscrypt-lawful
 
 abbrev pub answerOf : Moment → Answer
 answerOf m = m .answer
-
-abbrev pub refusalIn : Answer → Option ℕ
-refusalIn (refused n) = some n
-refusalIn done = none
-refusalIn (created i e) = none
-refusalIn (at e) = none
-refusalIn (policyIs p) = none
-refusalIn (shown s) = none
 
 -- the number that a request was refused with, if it was refused
 abbrev pub refusalOf : Moment → Option ℕ
@@ -69,50 +63,33 @@ slotsOf m = map slotOf (m .volume .keys)
 
 -- what may not differ of a buffer: nothing of a block that was sealed or opened and of the key of an add key; of a name without its key the bytes behind it, and
 -- of a long one its `_` and its two digits
-abbrev pub shownIn : Form → ℕ → Bytes → Option Bytes
-shownIn Plain n b = some b
-shownIn Decrypted n b = some b
-shownIn Encoded n b = some (cond (leb n 214) (drop n b) (getD b 0 0 ∷ drop 215 b))
+abbrev pub seenName : Form → ℕ → Bytes → Option Bytes
+seenName Plain n b = some b
+seenName Decrypted n b = some b
+seenName Encoded n b = some (cond (leb n 214) (drop n b) (getD b 0 0 ∷ drop 215 b))
 
-abbrev pub nameIn : Answer → Bytes → Option Bytes
-nameIn (refused n) b = some b
-nameIn done b = some b
-nameIn (created i e) b = some b
-nameIn (at e) b = some b
-nameIn (policyIs p) b = some b
-nameIn (shown s) b = shownIn (s .form) (s .len) b
+abbrev pub nameIn : Option ShownEntry → Bytes → Option Bytes
+nameIn (some s) b = seenName (s .form) (s .len) b
+nameIn none b = some b
 
-abbrev pub blockIn : Answer → Bytes → Option Bytes
-blockIn (refused n) b = some b
-blockIn done b = none
-blockIn (created i e) b = some b
-blockIn (at e) b = some b
-blockIn (policyIs p) b = some b
-blockIn (shown s) b = some b
+abbrev pub blockIn : Option ℕ → Bytes → Option Bytes
+blockIn (some refusal) b = some b
+blockIn none b = none
 
-abbrev pub bufferIn : Request → Answer → Bytes → Option Bytes
-bufferIn (addKey d k) a b = none
-bufferIn (removeKey d) a b = some b
-bufferIn (setPolicy i p x) a b = some b
-bufferIn (getPolicy i) a b = some b
-bufferIn (create p kind n x) a b = some b
-bufferIn (link i p n) a b = some b
-bufferIn (rename e p n) a b = some b
-bufferIn (exchange c d) a b = some b
-bufferIn (remove e) a b = some b
-bufferIn (find p n) a b = some b
-bufferIn (show e lent) a b = nameIn a b
-bufferIn (seal i n lent) a b = blockIn a b
-bufferIn (unseal i n lent) a b = blockIn a b
+abbrev pub bufferIn : Lent → Answer → Bytes → Option Bytes
+bufferIn no-buffer a b = some b
+bufferIn (key-buffer k) a b = none
+bufferIn (name-buffer n) a b = nameIn (shownIn a) b
+bufferIn (block-buffer x) a b = blockIn (refusalIn a) b
 
 abbrev pub bufferOf : Moment → Option Bytes
-bufferOf m = bufferIn (m .request) (m .answer) (m .buffer)
+bufferOf m = bufferIn (lends (m .request)) (m .answer) (m .buffer)
 
 -- ---- what blanking leaves is the same in both runs
 
-seen : {X : Type 0} (f : Moment → X) → ((m : Moment) → f (blank m) ≡ f m) → (ms : List Moment) → map f (map blank ms) ≡ map f ms
-seen f h [] = refl
-seen f h (m ∷ ms) = ap₂ _∷_ (h m) (seen f h ms)
+seen : {X : Type 0} (f : Outcome → X) (g : Moment → X) → ((m : Moment) → f (blank m) ≡ g m) → (ms : List Moment) → map f (map blank ms) ≡ map g ms
+seen f g h [] = refl
+seen f g h (m ∷ ms) = ap₂ _∷_ (h m) (seen f g h ms)
 
 same-lens : (v : Volume) (es : List Entry) → map (λ (e : Entry). e .len) (map (blankEntry v) es) ≡ map (λ (e : Entry). e .len) es
 same-lens v [] = refl
@@ -148,78 +125,81 @@ left-letters : (t : Bool) (n : ℕ) (b : Bytes) → let c = cond t (blankStart n
 left-letters true n b = left-start n b
 left-letters false n b = left-ends b
 
-left-shown : (f : Form) (n : ℕ) (b : Bytes) → shownIn f n (blankShown f n b) ≡ shownIn f n b
+left-shown : (f : Form) (n : ℕ) (b : Bytes) → seenName f n (blankShown f n b) ≡ seenName f n b
 unfolding blankShown blankLetters
 left-shown Plain n b = refl
 left-shown Decrypted n b = refl
 left-shown Encoded n b = ap some (left-letters (leb n 214) n b)
 
-left-buffer-named : (a : Answer) (b : Bytes) → nameIn a (blankName a b) ≡ nameIn a b
+left-named : (o : Option ShownEntry) (b : Bytes) → nameIn o (blankName o b) ≡ nameIn o b
 unfolding blankName
-left-buffer-named (refused n) b = refl
-left-buffer-named done b = refl
-left-buffer-named (created i e) b = refl
-left-buffer-named (at e) b = refl
-left-buffer-named (policyIs p) b = refl
-left-buffer-named (shown s) b = left-shown (s .form) (s .len) b
+left-named (some s) b = left-shown (s .form) (s .len) b
+left-named none b = refl
 
-left-block : (a : Answer) (b : Bytes) → blockIn a (blankBlock a b) ≡ blockIn a b
+left-block : (o : Option ℕ) (b : Bytes) → blockIn o (blankBlock o b) ≡ blockIn o b
 unfolding blankBlock
-left-block (refused n) b = refl
-left-block done b = refl
-left-block (created i e) b = refl
-left-block (at e) b = refl
-left-block (policyIs p) b = refl
-left-block (shown s) b = refl
+left-block (some refusal) b = refl
+left-block none b = refl
 
-left-buffer : (r : Request) (a : Answer) (b : Bytes) → bufferIn (blankRequest r) a (blankBuffer r a b) ≡ bufferIn r a b
-unfolding blankRequest blankBuffer
-left-buffer (addKey d k) a b = refl
-left-buffer (removeKey d) a b = refl
-left-buffer (setPolicy i p x) a b = refl
-left-buffer (getPolicy i) a b = refl
-left-buffer (create p kind n x) a b = refl
-left-buffer (link i p n) a b = refl
-left-buffer (rename e p n) a b = refl
-left-buffer (exchange c d) a b = refl
-left-buffer (remove e) a b = refl
-left-buffer (find p n) a b = refl
-left-buffer (show e lent) a b = left-buffer-named a b
-left-buffer (seal i n lent) a b = left-block a b
-left-buffer (unseal i n lent) a b = left-block a b
+left-buffer : (l : Lent) (a : Answer) (b : Bytes) → bufferIn l a (blankBuffer l a b) ≡ bufferIn l a b
+unfolding blankBuffer
+left-buffer no-buffer a b = refl
+left-buffer (key-buffer k) a b = refl
+left-buffer (name-buffer n) a b = left-named (shownIn a) b
+left-buffer (block-buffer x) a b = left-block (refusalIn a) b
+
+-- two moments of one request, which are the same once blanked
+one-buffer : (r : Request) (o₁ o₂ : Outcome) → blank (momentOf r o₁) ≡ blank (momentOf r o₂) → bufferOf (momentOf r o₁) ≡ bufferOf (momentOf r o₂)
+unfolding blank momentOf
+one-buffer r o₁ o₂ e =
+    sym (left-buffer (lends r) (o₁ .answer) (o₁ .buffer))
+    ∙ ap (λ (o : Outcome). bufferIn (lends r) (o .answer) (o .buffer)) e
+    ∙ left-buffer (lends r) (o₂ .answer) (o₂ .buffer)
+
+-- two runs that are the same once blanked, of lists that differ only in keys
+seen-buffers : (C : Cipher) {rs₁ rs₂ : List Request} → SameButKeys rs₁ rs₂ → (v₁ v₂ : Volume) → map blank (runFrom C v₁ rs₁) ≡ map blank (runFrom C v₂ rs₂)
+    → map bufferOf (runFrom C v₁ rs₁) ≡ map bufferOf (runFrom C v₂ rs₂)
+unfolding runFrom momentOf
+seen-buffers C no-more v₁ v₂ e = refl
+seen-buffers C (same-request r h) v₁ v₂ e =
+    ap₂ _∷_ (one-buffer r (step C v₁ r) (step C v₂ r) (cc e)) (seen-buffers C h ((step C v₁ r) .volume) ((step C v₂ r) .volume) (cc e))
+seen-buffers C (other-key d k₁ k₂ l h) v₁ v₂ e =
+    ap (none ∷_) (seen-buffers C h ((step C v₁ (addKey d k₁)) .volume) ((step C v₂ (addKey d k₂)) .volume) (cc e))
 
 module _ (C : Cipher) (law : Lawful C) (rs₁ rs₂ : List Request) (typed₁ : AllTyped rs₁) (typed₂ : AllTyped rs₂)
     (agree : SameButKeys rs₁ rs₂) (one₁ : OneKeyEach rs₁) (one₂ : OneKeyEach rs₂) where
-  same-seen : {X : Type 0} (f : Moment → X) → ((m : Moment) → f (blank m) ≡ f m) → map f (run C rs₁) ≡ map f (run C rs₂)
-  same-seen f h = sym (seen f h (run C rs₁)) ∙ ap (map f) (two-runs C law rs₁ rs₂ typed₁ typed₂ agree one₁ one₂ .same) ∙ seen f h (run C rs₂)
+  same-blank : map blank (run C rs₁) ≡ map blank (run C rs₂)
+  same-blank = two-runs C law rs₁ rs₂ typed₁ typed₂ agree one₁ one₂ .same
+
+  same-seen : {X : Type 0} (f : Outcome → X) (g : Moment → X) → ((m : Moment) → f (blank m) ≡ g m) → map g (run C rs₁) ≡ map g (run C rs₂)
+  same-seen f g h = sym (seen f g h (run C rs₁)) ∙ ap (map f) same-blank ∙ seen f g h (run C rs₂)
 
   pub same-answers : map answerOf (run C rs₁) ≡ map answerOf (run C rs₂)
   unfolding blank
-  same-answers = same-seen answerOf (λ m. refl)
+  same-answers = same-seen (λ o. o .answer) answerOf (λ m. refl)
 
   pub same-refusals : map refusalOf (run C rs₁) ≡ map refusalOf (run C rs₂)
   unfolding blank
-  same-refusals = same-seen refusalOf (λ m. refl)
+  same-refusals = same-seen (λ o. refusalIn (o .answer)) refusalOf (λ m. refl)
 
   pub same-inodes : map inodesOf (run C rs₁) ≡ map inodesOf (run C rs₂)
   unfolding blank blankVolume
-  same-inodes = same-seen inodesOf (λ m. refl)
+  same-inodes = same-seen (λ o. o .volume .inodes) inodesOf (λ m. refl)
 
   pub same-lengths : map lengthsOf (run C rs₁) ≡ map lengthsOf (run C rs₂)
   unfolding blank blankVolume
-  same-lengths = same-seen lengthsOf (λ m. same-lens (m .volume) (m .volume .entries))
+  same-lengths = same-seen (λ o. map (λ (e : Entry). e .len) (o .volume .entries)) lengthsOf (λ m. same-lens (m .volume) (m .volume .entries))
 
   pub same-entries : map entriesOf (run C rs₁) ≡ map entriesOf (run C rs₂)
   unfolding blank blankVolume
-  same-entries = same-seen entriesOf (λ m. same-entries-of (m .volume) (m .volume .entries))
+  same-entries = same-seen (λ o. map (entryIn (o .volume)) (o .volume .entries)) entriesOf (λ m. same-entries-of (m .volume) (m .volume .entries))
 
   pub same-slots : map slotsOf (run C rs₁) ≡ map slotsOf (run C rs₂)
   unfolding blank blankVolume
-  same-slots = same-seen slotsOf (λ m. same-slots-of (m .volume .keys))
+  same-slots = same-seen (λ o. map slotOf (o .volume .keys)) slotsOf (λ m. same-slots-of (m .volume .keys))
 
   pub same-buffers : map bufferOf (run C rs₁) ≡ map bufferOf (run C rs₂)
-  unfolding blank
-  same-buffers = same-seen bufferOf (λ m. left-buffer (m .request) (m .answer) (m .buffer))
+  same-buffers = seen-buffers C agree fresh fresh same-blank
 
   -- of either list alone: show never says EUCLEAN, and a name that it shows plain or decrypted is the given one
   pub never-unclean : (past next : List Moment) (m : Moment) → run C rs₁ ≡ past ++ (m ∷ next) → (e : EntryNumber) (b : Bytes) → m .request ≡ show e b → m .answer ≢ refused 117
@@ -228,6 +208,10 @@ module _ (C : Cipher) (law : Lawful C) (rs₁ rs₂ : List Request) (typed₁ : 
   pub shown-as-given : (past next : List Moment) (m : Moment) → run C rs₁ ≡ past ++ (m ∷ next) → (e : EntryNumber) (b : Bytes) → m .request ≡ show e b
       → (s : ShownEntry) → m .answer ≡ shown s → s .form ≢ Encoded → given past (e .0) ≡ some (take (s .len) (m .buffer))
   shown-as-given = two-runs C law rs₁ rs₂ typed₁ typed₂ agree one₁ one₂ .names₁ .named
+
+same-list : (rs : List Request) → SameButKeys rs rs
+same-list [] = no-more
+same-list (r ∷ rs) = same-request r (same-list rs)
 
 -- ---- the lists that are meant: two keys are added, whatever their bytes, and then anything is asked
 
@@ -256,8 +240,7 @@ module _ (d e : Bytes) (apart : d ≢ e) (rs : List Request) (no-more : (d′ k�
       both (inr p) (inr q) = p .1 ∙ sym (q .1)
 
   same-but-two : (k₁ k₂ l₁ l₂ : Bytes) → length k₁ ≡ length k₂ → length l₁ ≡ length l₂ → SameButKeys (keyed k₁ l₁) (keyed k₂ l₂)
-  unfolding blankRequest
-  same-but-two k₁ k₂ l₁ l₂ hk hl = ap₂ (λ (m n : ℕ). addKey d (zeros m) ∷ addKey e (zeros n) ∷ map blankRequest rs) hk hl
+  same-but-two k₁ k₂ l₁ l₂ hk hl = other-key d k₁ k₂ hk (other-key e l₁ l₂ hl (same-list rs))
 
   -- the runs agree whatever the bytes of the two keys are: nothing more is asked of a list
   pub any-two-keys : (C : Cipher) → Lawful C → (k₁ k₂ l₁ l₂ : Bytes) → length k₁ ≡ length k₂ → length l₁ ≡ length l₂

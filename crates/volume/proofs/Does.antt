@@ -4,7 +4,8 @@ use Prim.Native.Nat.{ℕ, _-_, _≤_, _<_}
 use native.Mathlib.Omega.{arith}
 use mathlib.Core.Path.{_≡_, refl, sym, _∙_, ap, subst, subst₂}
 use mathlib.Core.Logic.{_≢_, _↔_}
-use mathlib.Core.Bool.{Bool, true, false, true≢false}
+use mathlib.Core.Bool.{true, true≢false}
+use mathlib.Core.Option.{none}
 use mathlib.Core.List.{List}
 use lib.ListN.{length, getD, set, length-set}
 use lib.Seq.{getD-set-same, getD-set-other, set-getD, take-append-seam}
@@ -19,22 +20,21 @@ use Rattle.policy.specs.Policies.{readPolicy}
 use Rattle.policy.specs.Meanings.{PolicyIn}
 use Rattle.fscrypt.specs.Cipher.{Cipher}
 use Rattle.volume.specs.Volume.{keySlots, inodeSlots, entrySlots, noKey, noInode, noEntry, encryptedInode, keySlot, entrySlot, keyBytes, nameOf}
-use Rattle.volume.specs.Request.{Request, addKey, removeKey, setPolicy, getPolicy, create, link, rename, exchange, remove, find, show, seal, unseal, Answer, refused, done, created, at, policyIs, shown, Outcome}
+use Rattle.volume.specs.Request.{Request, addKey, removeKey, setPolicy, create, link, rename, exchange, remove, Answer, done, created, at, refusalIn, Outcome}
 use Rattle.volume.specs.Lookup.{keySlotOf, freeKeySlot, inodeAt, freeInode, entryAt, freeEntry, isLink, firstLink, isHeld}
 use Rattle.volume.specs.DirectoryNames.{stored}
 use Rattle.volume.specs.Checks.{isBadKeyLength, isNonceNeeded}
 use Rattle.volume.specs.Step.{withKeys, withInodes, withEntries, childOf, withInode, withoutUnheld, check, effect, step}
 use Rattle.volume.specs.Sound.{keyAt, slotAt, EntryOf, Sound}
 use Rattle.volume.specs.Meanings.{KeyIn}
-use Rattle.volume.specs.DoneWhen.{Done}
-use Rattle.volume.specs.Does.{Answers, OtherEntriesStay, KeyAdded, KeyRemoved, PolicySet, WithoutContext, Inherits, Created, Linked, Joins, Holds, Exchanged, Removed, Renamed, Does}
+use Rattle.volume.specs.Does.{OtherEntriesStay, KeyAdded, KeyRemoved, PolicySet, WithoutContext, Inherits, Created, Linked, Joins, Holds, Exchanged, Removed, Renamed, Does}
 use Rattle.ids.specs.declared.InodeNumber.{InodeNumber}
 use Rattle.ids.specs.declared.EntryNumber.{EntryNumber}
 use Rattle.volume.specs.declared.Key.{Key}
 use Rattle.volume.specs.declared.Inode.{Inode}
 use Rattle.volume.specs.declared.Entry.{Entry}
 use Rattle.volume.specs.declared.Volume.{Volume}
-use Rattle.volume.proofs.Kept.{step-has}
+use Rattle.volume.proofs.Kept.{refusal≢none, step-has}
 use Rattle.volume.proofs.SoundCore.{slot-name}
 use Rattle.volume.proofs.SoundInvariant.{used-range, kind-range, child-kind}
 use Rattle.volume.proofs.Passed.{add-key-passed, remove-key-passed, set-policy-passed, create-passed, link-passed, exchange-passed, rename-passed, remove-passed}
@@ -44,38 +44,10 @@ use Rattle.volume.proofs.DoneWhenLines.{policy-read}
 
 -- ---- done, so not refused
 
-abbrev isRefusal : Answer → Bool
-isRefusal (refused n) = true
-isRefusal done = false
-isRefusal (created i e) = false
-isRefusal (at e) = false
-isRefusal (policyIs b) = false
-isRefusal (shown s) = false
-
 -- what holds of the effect where the check was passed and this was answered
-once-done : (C : Cipher) (v : Volume) (r : Request) (a : Answer) (P : Volume → Type 0) → isRefusal a ≡ false → (step C v r) .answer ≡ a
+once-done : (C : Cipher) (v : Volume) (r : Request) (a : Answer) (P : Volume → Type 0) → refusalIn a ≡ none → (step C v r) .answer ≡ a
     → (check C v r ≡ Fine → (effect C v r) .answer ≡ a → P ((effect C v r) .volume)) → P ((step C v r) .volume)
-once-done C v r a P answers h f = step-has C v r (λ (o : Outcome). o .answer ≡ a → P (o .volume)) (λ e q. absurd (true≢false (ap isRefusal q ∙ answers))) f h
-
-module _ (C : Cipher) (v : Volume) where
-  its-answer : (r : Request) → Answers r ((effect C v r) .answer)
-  unfolding effect
-  its-answer (addKey d k) = refl
-  its-answer (removeKey d) = refl
-  its-answer (setPolicy i p x) = refl
-  its-answer (getPolicy i) = (_, refl)
-  its-answer (create p kind n x) = (_, _, refl)
-  its-answer (link i p n) = (_, refl)
-  its-answer (rename e p n) = refl
-  its-answer (exchange a b) = refl
-  its-answer (remove e) = refl
-  its-answer (find p n) = (_, refl)
-  its-answer (show e b) = (_, refl)
-  its-answer (seal i n b) = refl
-  its-answer (unseal i n b) = refl
-
-  answers : (r : Request) → Done C v r → Answers r ((step C v r) .answer)
-  answers r = step-has C v r (λ (o : Outcome). ((n : ℕ) → o .answer ≢ refused n) → Answers r (o .answer)) (λ e f. absurd (f (number e) refl)) (λ k f. its-answer r)
+once-done C v r a P answers h f = step-has C v r (λ (o : Outcome). o .answer ≡ a → P (o .volume)) (λ e q. absurd (refusal≢none (number e) (ap refusalIn q ∙ answers))) f h
 
 -- a store within a table of n slots is read back
 read-back : {A : Type 0} (l : List A) (d : A) (n : ℕ) → length l ≡ n → (i : ℕ) (x : A) → i < n → getD (set l i x) i d ≡ x
@@ -366,7 +338,6 @@ module _ (C : Cipher) (v : Volume) where
 
 pub does : (C : Cipher) → Does C
 does C = record {
-  answers = answers C;
   key-added = key-added C;
   key-removed = key-removed C;
   policy-set = λ v s. policy-set C v;

@@ -24,7 +24,7 @@ use Rattle.volume.specs.Checks.{getPolicyCheck}
 use Rattle.volume.specs.Step.{withInodes, childOf, check, effect, step}
 use Rattle.volume.specs.Sound.{dirOf, nodeOf, Sound}
 use Rattle.volume.specs.Meanings.{Least, InodeFree, EntryFree, EntryNamed, Meanings}
-use Rattle.volume.specs.DoneWhen.{Occasion, Done, DoneWhen}
+use Rattle.volume.specs.DoneWhen.{Answers, Occasion, Done, DoneWhen}
 use Rattle.ids.specs.declared.InodeNumber.{InodeNumber}
 use Rattle.ids.specs.declared.EntryNumber.{EntryNumber}
 use Rattle.volume.specs.declared.Inode.{Inode}
@@ -33,8 +33,7 @@ use Rattle.volume.proofs.Kept.{step-has, done-by, was-fine, was-done}
 use Rattle.errno.proofs.ChainMeanings.{table-passes as line, line-passes as test}
 use Rattle.volume.proofs.Passed.{set-policy-passed, create-passed, link-passed, find-passed}
 use Rattle.volume.proofs.SoundInvariant.{child-kind, child-policy}
-use Rattle.volume.proofs.SealedOpens.{not-refused}
-use Rattle.volume.proofs.Leaves.{effect-answers}
+use Rattle.volume.proofs.Touching.{never-refused}
 use Rattle.volume.proofs.Meanings.{meanings}
 use Rattle.volume.proofs.DoneWhenLines.{negated, differ}
 use Rattle.volume.proofs.DoneWhenTables.{add-key-when, remove-key-when, set-policy-when, get-policy-when, create-when, link-when, rename-when, exchange-when, remove-when, find-when, show-when, block-when}
@@ -44,24 +43,32 @@ use Rattle.volume.proofs.DoneWhenTables.{add-key-when, remove-key-when,
 done-fine : (C : Cipher) (v : Volume) (r : Request) → Done C v r ↔ (check C v r ≡ Fine)
 done-fine C v r = (
   step-has C v r (λ (o : Outcome). ((n : ℕ) → o .answer ≢ refused n) → check C v r ≡ Fine) (λ e f. absurd (f (number e) refl)) (λ k f. k),
-  λ k n h. effect-answers C v r n (ap (λ (o : Outcome). o .answer) (sym (done-by C v r k)) ∙ h),
+  λ k n h. never-refused C v r n (ap (λ (o : Outcome). o .answer) (sym (done-by C v r k)) ∙ h),
 )
 
+-- ---- what each answers
+
+module _ (C : Cipher) (v : Volume) where
+  its-answer : (r : Request) → Answers r ((effect C v r) .answer)
+  unfolding effect
+  its-answer (addKey d k) = refl
+  its-answer (removeKey d) = refl
+  its-answer (setPolicy i p x) = refl
+  its-answer (getPolicy i) = (_, refl)
+  its-answer (create p kind n x) = (_, _, refl)
+  its-answer (link i p n) = (_, refl)
+  its-answer (rename e p n) = refl
+  its-answer (exchange a b) = refl
+  its-answer (remove e) = refl
+  its-answer (find p n) = (_, refl)
+  its-answer (show e b) = (_, refl)
+  its-answer (seal i n b) = refl
+  its-answer (unseal i n b) = refl
+
+  answers : (r : Request) → Done C v r → Answers r ((step C v r) .answer)
+  answers r = step-has C v r (λ (o : Outcome). ((n : ℕ) → o .answer ≢ refused n) → Answers r (o .answer)) (λ e f. absurd (f (number e) refl)) (λ k f. its-answer r)
+
 -- ---- what get policy and show answer
-
--- the answers that are no refusal
-module _ (m : ℕ) where
-  not-done : refused m ≢ done
-  not-done q = let z : _≡_ {A = ℕ} 0 1 = cc in absurd (omega arith)
-
-  not-created : (i : InodeNumber) (e : EntryNumber) → refused m ≢ created i e
-  not-created i e q = let z : _≡_ {A = ℕ} 0 1 = cc in absurd (omega arith)
-
-  not-at : (e : EntryNumber) → refused m ≢ at e
-  not-at e q = let z : _≡_ {A = ℕ} 0 1 = cc in absurd (omega arith)
-
-  not-told : (b : Bytes) → refused m ≢ policyIs b
-  not-told b q = let z : _≡_ {A = ℕ} 0 1 = cc in absurd (omega arith)
 
 module _ (C : Cipher) where
   abbrev asked : Volume → InodeNumber → Answer
@@ -78,14 +85,14 @@ module _ (C : Cipher) where
   policy-told : (v : Volume) (i : InodeNumber) (b : Bytes) → asked v i ≡ policyIs b → b ≡ policyBytes ((inodeAt v i) .context .policy)
   unfolding effect
   policy-told v i b h =
-      let d = was-done C v (getPolicy i) (policyIs b) (λ m. not-told m b) h in
+      let d = was-done C v (getPolicy i) (policyIs b) refl h in
       cc (ap (λ (o : Outcome). o .answer) (sym d) ∙ h)
 
   -- set policy puts the policy there, or finds it there
   policy-set : (v : Volume) (i : InodeNumber) (p x : Bytes) → (step C v (setPolicy i p x)) .answer ≡ done → asked ((step C v (setPolicy i p x)) .volume) i ≡ policyIs p
   unfolding check effect
   policy-set v i p x h =
-      let fine = was-fine C v (setPolicy i p x) done not-done h in
+      let fine = was-fine C v (setPolicy i p x) done refl h in
       let c = set-policy-passed v i p x fine in
       let new = encryptedInode 1 ((readPolicy p) .policy) x in
       let bytes = policyBytes-readPolicy p (readPolicy-checked p ∙ c .policy) in
@@ -100,7 +107,7 @@ module _ (C : Cipher) where
       → (step C v (create p kind n x)) .answer ≡ created i e → (inodeAt v p) .encrypted ≡ true → kind ≤ 3 → asked ((step C v (create p kind n x)) .volume) i ≡ asked v p
   unfolding check effect
   policy-inherited v s p kind n x i e h encrypted small =
-      let fine = was-fine C v (create p kind n x) (created i e) (λ m. not-created m i e) h in
+      let fine = was-fine C v (create p kind n x) (created i e) refl h in
       let d = done-by C v (create p kind n x) fine in
       let c = create-passed C v p kind n x fine in
       let dir = inodeAt v p in
@@ -120,7 +127,7 @@ module _ (C : Cipher) where
       → (s .parent ≡ entryAt v e .parent) × (s .inode ≡ entryAt v e .inode) × (s .kind ≡ (nodeOf v (e .0)) .kind) × (s .form ≡ formIn v (dirOf v (e .0)))
   unfolding effect
   shown-as v e b s h =
-      let a = ap (λ (o : Outcome). o .answer) (sym (was-done C v (show e b) (shown s) (not-refused s) h)) ∙ h in
+      let a = ap (λ (o : Outcome). o .answer) (sym (was-done C v (show e b) (shown s) refl h)) ∙ h in
       (cc a, cc a, cc a, cc a)
 
 -- ---- the numbers that create, link and find answer
@@ -130,7 +137,7 @@ module _ (C : Cipher) (v : Volume) (means : Meanings v) where
       → Least (InodeFree v) (i .0) × Least (EntryFree v) (e .0)
   unfolding check effect
   created-as p kind n x i e h =
-      let fine = was-fine C v (create p kind n x) (created i e) (λ m. not-created m i e) h in
+      let fine = was-fine C v (create p kind n x) (created i e) refl h in
       let c = create-passed C v p kind n x fine in
       let a = ap (λ (o : Outcome). o .answer) (sym (done-by C v (create p kind n x) fine)) ∙ h in
       (means .lowest-inode (i .0) (omega (arith, number₁ a, c .inode-room)) .0 (number₁ a), means .lowest-entry (e .0) (omega (arith, number₂ a, c .entry-room)) .0 (number₂ a))
@@ -147,14 +154,14 @@ module _ (C : Cipher) (v : Volume) (means : Meanings v) where
   linked-as : (i p : InodeNumber) (n : Bytes) (e : EntryNumber) → (step C v (link i p n)) .answer ≡ at e → Least (EntryFree v) (e .0)
   unfolding check effect
   linked-as i p n e h =
-      let fine = was-fine C v (link i p n) (at e) (λ m. not-at m e) h in
+      let fine = was-fine C v (link i p n) (at e) refl h in
       let number = at-number (freeEntry v) e (ap (λ (o : Outcome). o .answer) (sym (done-by C v (link i p n) fine)) ∙ h) in
       means .lowest-entry (e .0) (omega (arith, number, link-passed C v i p n fine .entry-room)) .0 number
 
   found-as : (p : InodeNumber) (n : Bytes) (e : EntryNumber) → (step C v (find p n)) .answer ≡ at e → EntryNamed v p (stored C v (inodeAt v p) n) (e .0)
   unfolding check effect
   found-as p n e h =
-      let fine = was-fine C v (find p n) (at e) (λ m. not-at m e) h in
+      let fine = was-fine C v (find p n) (at e) refl h in
       let s = stored C v (inodeAt v p) n in
       let number = at-number (entryNamed v p s) e (ap (λ (o : Outcome). o .answer) (sym (done-by C v (find p n) fine)) ∙ h) in
       means .name-found p s (e .0) (omega (arith, number, find-passed C v p n fine .found)) .0 number .holds
@@ -181,6 +188,7 @@ module _ (C : Cipher) where
   pub done-when : DoneWhen C
   done-when = record {
     exactly = λ v s r. let d = done-fine C v r in let w = fine-when v s r in (λ f. w .0 (d .0 f), λ o. d .1 (w .1 o));
+    answers = answers C;
     policy-set = policy-set C;
     policy-inherited = policy-inherited C;
     policy-told = policy-told C;

@@ -1,8 +1,10 @@
 -- What holds of every refusal, with buffer and volume as they were, and of the effect where the check passed, holds of a request's outcome; and what every typed
 -- request keeps holds after each request of a list, by induction on the list. A request that was not refused passed its checks and did its effect. Assumes nothing.
 use Prim.Native.Nat.{ℕ}
-use mathlib.Core.Path.{_≡_, refl, sym, ap, subst}
+use native.Mathlib.Omega.{arith}
+use mathlib.Core.Path.{_≡_, refl, sym, _∙_, ap, subst}
 use mathlib.Core.Logic.{_≢_, _⊎_, inl, inr}
+use mathlib.Core.Option.{Option, some, none}
 use mathlib.Core.List.{List, [], _∷_, List·Memᴰ, List·Memᴰ·not-nil, List·Memᴰ·cases-cons, List·Memᴰ·head, List·Memᴰ·tail}
 use Rattle.lists.specs.Bytes.{Bytes}
 use Rattle.errno.specs.Refusals.{number}
@@ -11,12 +13,15 @@ use Rattle.errno.specs.declared.Checked.{Checked}
 use Rattle.errno.specs.declared.Checked.the-variants.{Fine, Refused}
 use Rattle.fscrypt.specs.Cipher.{Cipher}
 use Rattle.volume.specs.Volume.{fresh}
-use Rattle.volume.specs.Request.{Request, Answer, refused, Outcome, outcome, Typed, AllTyped}
+use Rattle.volume.specs.Request.{Request, Answer, refused, refusalIn, Outcome, outcome, Typed, AllTyped}
 use Rattle.volume.specs.Step.{lent, check, effect, settle, step}
 use Rattle.volume.specs.Run.{Moment, momentOf, runFrom, run}
 use Rattle.volume.specs.declared.Volume.{Volume}
 
 -- ---- one request
+
+pub refusal≢none : (n : ℕ) → _≢_ {A = Option ℕ} (some n) none
+refusal≢none n h = let z : _≡_ {A = ℕ} 0 1 = cc in omega arith
 
 settle-has : (P : Outcome → Type 0) (v : Volume) (b : Bytes) (k : Checked) (o : Outcome) → ((e : Errno) → P (outcome (refused (number e)) b v)) → (k ≡ Fine → P o)
     → P (settle v b k o)
@@ -38,9 +43,9 @@ module _ (C : Cipher) (v : Volume) (r : Request) where
   done-by h = ap (λ (k : Checked). settle v (lent r) k (effect C v r)) h
 
   -- a request that was not refused passed its checks
-  module _ (a : Answer) (na : (m : ℕ) → refused m ≢ a) (h : (step C v r) .answer ≡ a) where
+  module _ (a : Answer) (no : refusalIn a ≡ none) (h : (step C v r) .answer ≡ a) where
     pub was-fine : check C v r ≡ Fine
-    was-fine = step-has (λ (o : Outcome). o .answer ≡ a → check C v r ≡ Fine) (λ e q. absurd (na (number e) q)) (λ k q. k) h
+    was-fine = step-has (λ (o : Outcome). o .answer ≡ a → check C v r ≡ Fine) (λ e q. absurd (refusal≢none (number e) (ap refusalIn q ∙ no))) (λ k q. k) h
 
     pub was-done : step C v r ≡ effect C v r
     was-done = done-by was-fine

@@ -38,7 +38,7 @@ use Rattle.volume.proofs.Passed.{key-present, show-passed}
 use Rattle.volume.proofs.Soundness.{fresh-sound, fresh-unused, sound-kept}
 use Rattle.volume.proofs.Bytewise.{fresh-bytes, bytewise-kept}
 use Rattle.volume.proofs.Kept.{was-fine}
-use Rattle.volume.proofs.SealedOpens.{not-refused, readable, shows}
+use Rattle.volume.proofs.SealedOpens.{readable, shows}
 use Rattle.volume.proofs.Leaves.{leaves}
 use Rattle.volume.proofs.NamesSince.{Since, stayed, gained, step-since}
 
@@ -167,7 +167,7 @@ module _ (C : Cipher) where
           → g (e .0) ≡ some (take (x .len) ((step C v (show e b)) .buffer))
       unfolding check
       named-show same b x h =
-          let c = show-passed C v e (length b) (was-fine C v (show e b) (shown x) (not-refused x) h) in
+          let c = show-passed C v e (length b) (was-fine C v (show e b) (shown x) refl h) in
           let r = shows-given same (c .entry) b (c .room) in
           let l : r .0 .len ≡ x .len = cc (sym (r .1) ∙ h) in
           all (e .0) (c .entry) .is-given ∙ ap some (sym (r .3) ∙ ap (λ (n : ℕ). take n ((step C v (show e b)) .buffer)) l)

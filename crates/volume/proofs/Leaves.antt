@@ -2,7 +2,6 @@
 -- volume; a name laid over a buffer leaves what stands past it. Assumes nothing.
 use Prim.Native.Nat.{ℕ}
 use mathlib.Core.Path.{_≡_, refl, sym, _∙_, ap}
-use mathlib.Core.Bool.{Bool, true, false, true≢false}
 use mathlib.Core.List.{_++_}
 use lib.ListN.{length, drop}
 use lib.Seq.{drop-append-seam}
@@ -11,7 +10,7 @@ use Rattle.errno.specs.Refusals.{number}
 use Rattle.errno.specs.declared.Errno.{Errno}
 use Rattle.fscrypt.specs.Cipher.{Cipher}
 use Rattle.volume.specs.Volume.{nameOf}
-use Rattle.volume.specs.Request.{Request, addKey, removeKey, setPolicy, getPolicy, create, link, rename, exchange, remove, find, show, seal, unseal, Answer, refused, done, created, at, policyIs, shown, Outcome, outcome, ShownEntry}
+use Rattle.volume.specs.Request.{Request, getPolicy, find, show, seal, unseal, refused, shown, Outcome, outcome, ShownEntry}
 use Rattle.volume.specs.Lookup.{inodeAt, entryAt}
 use Rattle.volume.specs.DirectoryNames.{shownName}
 use Rattle.volume.specs.Step.{lent, effect, step}
@@ -19,44 +18,16 @@ use Rattle.volume.specs.Leaves.{Refuses, Leaves}
 use Rattle.ids.specs.declared.EntryNumber.{EntryNumber}
 use Rattle.volume.specs.declared.Volume.{Volume}
 use Rattle.volume.proofs.Kept.{step-has, volume-has, was-done}
-use Rattle.volume.proofs.SealedOpens.{not-refused}
-
-abbrev isRefusal : Answer → Bool
-isRefusal (refused n) = true
-isRefusal done = false
-isRefusal (created i e) = false
-isRefusal (at e) = false
-isRefusal (policyIs p) = false
-isRefusal (shown s) = false
+use Rattle.volume.proofs.Touching.{never-refused}
 
 module _ (C : Cipher) (v : Volume) where
-  effect-is : (r : Request) → isRefusal ((effect C v r) .answer) ≡ false
-  unfolding effect
-  effect-is (addKey d k) = refl
-  effect-is (removeKey d) = refl
-  effect-is (setPolicy i p x) = refl
-  effect-is (getPolicy i) = refl
-  effect-is (create p kind n x) = refl
-  effect-is (link i p n) = refl
-  effect-is (rename e p n) = refl
-  effect-is (exchange a b) = refl
-  effect-is (remove e) = refl
-  effect-is (find p n) = refl
-  effect-is (show e b) = refl
-  effect-is (seal i k b) = refl
-  effect-is (unseal i k b) = refl
-
-  -- no effect answers a refusal
-  pub effect-answers : (r : Request) (m : ℕ) → (effect C v r) .answer ≡ refused m → ⊥
-  effect-answers r m h = true≢false (sym (ap isRefusal h) ∙ effect-is r)
-
   -- a refusal comes of the check alone, and settles to what was there
   numbered : (r : Request) (n : ℕ) → Refuses C v r n → (e : Errno) × (n ≡ number e)
-  numbered r n = step-has C v r (λ (o : Outcome). o .answer ≡ refused n → (e : Errno) × (n ≡ number e)) (λ e h. (e, cc)) (λ k h. absurd (effect-answers r n h))
+  numbered r n = step-has C v r (λ (o : Outcome). o .answer ≡ refused n → (e : Errno) × (n ≡ number e)) (λ e h. (e, cc)) (λ k h. absurd (never-refused C v r n h))
 
   refused-all : (r : Request) (n : ℕ) → Refuses C v r n → step C v r ≡ outcome (refused n) (lent r) v
   refused-all r n =
-      step-has C v r (λ (o : Outcome). o .answer ≡ refused n → o ≡ outcome (refused n) (lent r) v) (λ e h. cc) (λ k h. absurd (effect-answers r n h))
+      step-has C v r (λ (o : Outcome). o .answer ≡ refused n → o ≡ outcome (refused n) (lent r) v) (λ e h. cc) (λ k h. absurd (never-refused C v r n h))
 
   keeps : (r : Request) → (effect C v r) .volume ≡ v → (step C v r) .volume ≡ v
   keeps r e = volume-has C v r (λ (w : Volume). w ≡ v) refl (λ k. e)
@@ -66,7 +37,7 @@ module _ (C : Cipher) (v : Volume) where
       → drop (s .len) ((step C v (show e b)) .buffer) ≡ drop (s .len) b
   unfolding effect
   past-the-name e b s h =
-      let d = was-done C v (show e b) (shown s) (not-refused s) h in
+      let d = was-done C v (show e b) (shown s) refl h in
       let n = shownName C v (inodeAt v (entryAt v e .parent)) e (nameOf (entryAt v e)) in
       let l : length n ≡ s .len = cc (ap (λ (o : Outcome). o .answer) (sym d) ∙ h) in
       ap (λ (o : Outcome). drop (s .len) (o .buffer)) d
@@ -78,11 +49,7 @@ pub leaves : (C : Cipher) → Leaves C
 unfolding lent effect
 leaves C = record {
   numbered = λ v. numbered C v;
-  refused-volume = λ v r n h. ap (λ (o : Outcome). o .volume) (refused-all C v r n h);
-  refused-add-key = λ v d k n h. refused-all C v (addKey d k) n h;
-  refused-show = λ v e b n h. refused-all C v (show e b) n h;
-  refused-seal = λ v i k b n h. refused-all C v (seal i k b) n h;
-  refused-open = λ v i k b n h. refused-all C v (unseal i k b) n h;
+  refused-all = λ v. refused-all C v;
   past-the-name = λ v. past-the-name C v;
   getting = λ v i. keeps C v (getPolicy i) refl;
   finding = λ v p n. keeps C v (find p n) refl;

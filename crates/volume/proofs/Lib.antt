@@ -6,6 +6,7 @@ mod Values
 mod Occasions
 -- one request, and lists of requests
 mod Kept
+mod Touching
 mod SoundPolicy
 pub mod PlainMeanings
 pub mod Passed

@@ -15,19 +15,20 @@ use Rattle.errno.specs.declared.Checked.the-variants.{Fine}
 use Rattle.fscrypt.specs.Cipher.{Cipher, Lawful}
 use Rattle.fscrypt.specs.Names.{nameCheck}
 use Rattle.volume.specs.Volume.{noInode, noEntry, nameOf, entrySlot}
-use Rattle.volume.specs.Request.{Request, addKey, removeKey, setPolicy, getPolicy, create, link, rename, exchange, remove, find, show, seal, unseal, Outcome, Typed}
+use Rattle.volume.specs.Request.{Request, setPolicy, create, link, rename, exchange, remove, Outcome, Typed}
 use Rattle.volume.specs.Lookup.{lacksKey, inodeAt, freeInode, entryAt, isVacant, freeEntry, isHeld}
 use Rattle.volume.specs.DirectoryNames.{stored}
 use Rattle.volume.specs.Checks.{setPolicyCheck, createCheck, linkCheck, renameCheck, exchangeCheck, removeCheck}
 use Rattle.volume.specs.Step.{childOf, withoutUnheld, check, effect, step}
 use Rattle.volume.specs.Sound.{Sound, Used, nodeAt, slotAt, dirOf}
-use Rattle.volume.specs.GivenNames.{onlyAt, named, naming, namedBy}
+use Rattle.volume.specs.GivenNames.{nothing, naming, onlyAt, named, namedBy}
 use Rattle.ids.specs.declared.InodeNumber.{InodeNumber}
 use Rattle.ids.specs.declared.EntryNumber.{EntryNumber}
 use Rattle.volume.specs.declared.Inode.{Inode}
 use Rattle.volume.specs.declared.Entry.{Entry}
 use Rattle.volume.specs.declared.Volume.{Volume}
 use Rattle.volume.proofs.Kept.{step-has}
+use Rattle.volume.proofs.Touching.{Touches, asks, adds-key, removes-key, sets-policy, creates, links, renames, exchanges, removes, touches, unnamed}
 use Rattle.volume.proofs.SoundCore.{nodeIn, slot-name, none-in}
 use Rattle.volume.proofs.SoundClimb.{num}
 use Rattle.volume.proofs.SoundInvariant.{one≢zero, used-range}
@@ -104,6 +105,11 @@ module _ (C : Cipher) (law : Lawful C) (v : Volume) (s : Sound v) where
 
   -- ---- names and directories stay
 
+  asked-since : (r : Request) → (effect C v r) .volume ≡ v → naming r ≡ nothing → Leaves r
+  asked-since r leaves unnaming j u =
+      stayed (unnamed r ((effect C v r) .answer) j unnaming) (subst (λ (w : Volume). Used w j) leaves u) (ap (λ (w : Volume). nameOf (slotAt w j)) leaves)
+      (ap (λ (w : Volume). dirOf w j) leaves)
+
   setPolicy-since : (i : InodeNumber) (p x : Bytes) → setPolicyCheck v i p x ≡ Fine → Leaves (setPolicy i p x)
   unfolding effect namedBy naming named
   setPolicy-since i p x h =
@@ -134,21 +140,17 @@ module _ (C : Cipher) (law : Lawful C) (v : Volume) (s : Sound v) where
       ap (λ (x : Entry). nodeIn (set (v .inodes) (gone .0) noInode) (x .parent .0)) q
       ∙ getD-set-other (v .inodes) (gone .0) (slotAt v j .parent .0) noInode noInode (none-in v (s .entry-slots) gone (c .empty) j used)))
 
-  since : (r : Request) → Typed r → check C v r ≡ Fine → Leaves r
+  since : {r : Request} → Touches r → Typed r → check C v r ≡ Fine → Leaves r
   unfolding check effect namedBy naming named
-  since (addKey d k) t h = λ j u. stayed refl u refl refl
-  since (removeKey d) t h = λ j u. stayed refl u refl refl
-  since (setPolicy i p x) t h = setPolicy-since i p x h
-  since (getPolicy i) t h = λ j u. stayed refl u refl refl
-  since (create p kind n x) t h = create-since p kind n x (t .0) h
-  since (link i p n) t h = link-since i p n t h
-  since (rename e p n) t h = rename-since e p n t h
-  since (exchange a b) t h = exchange-since a b h
-  since (remove e) t h = remove-since e h
-  since (find p n) t h = λ j u. stayed refl u refl refl
-  since (show e b) t h = λ j u. stayed refl u refl refl
-  since (seal i n b) t h = λ j u. stayed refl u refl refl
-  since (unseal i n b) t h = λ j u. stayed refl u refl refl
+  since (asks {r} answers leaves unnaming) t h = asked-since r (leaves C v) unnaming
+  since (adds-key d k) t h = λ j u. stayed refl u refl refl
+  since (removes-key d) t h = λ j u. stayed refl u refl refl
+  since (sets-policy i p x) t h = setPolicy-since i p x h
+  since (creates p kind n x) t h = create-since p kind n x (t .0) h
+  since (links i p n) t h = link-since i p n t h
+  since (renames e p n) t h = rename-since e p n t h
+  since (exchanges a b) t h = exchange-since a b h
+  since (removes e) t h = remove-since e h
 
 -- ---- a refusal leaves all as it was
 
@@ -157,4 +159,4 @@ pub step-since : (C : Cipher) → Lawful C → (v : Volume) → Sound v → (r :
 unfolding namedBy
 step-since C law v s r t =
     step-has C v r (λ (o : Outcome). (j : ℕ) → Used (o .volume) j → Since C v (o .volume) (namedBy r (o .answer) j) j) (λ e j u. stayed refl u refl refl)
-    (since C law v s r t)
+    (since C law v s (touches r) t)

@@ -1,9 +1,10 @@
 -- The tests of numbers and records mean what specs/Meanings.antt says, part by part. Assumes nothing.
 use Prim.Native.Nat.{ℕ, _≤_}
 use native.Mathlib.Omega.{arith}
-use mathlib.Core.Path.{_≡_, refl, ap₂}
+use mathlib.Core.Path.{_≡_, refl, sym, ap, ap₂}
 use mathlib.Core.Logic.{_↔_, Iff·rfl}
 use mathlib.Core.Bool.{true, false, _||_}
+use mathlib.Core.Option.{some}
 use lib.Dec.{eqb}
 use borrow.Author.Tests.{ltb-false, eqb-false, le-ltb}
 use Rattle.lists.specs.Bytes.{zeros}
@@ -11,11 +12,13 @@ use Rattle.lists.proofs.Tests.{or-left, or-right, eqb-other}
 use Rattle.lists.proofs.Slots.{by-test}
 use Rattle.lists.proofs.Searches.{equal, at-most, not-denied, both, either}
 use Rattle.policy.specs.Policies.{policyBytes}
+use Rattle.volume.specs.Request.{ShownEntry, Answer, refused, done, created, at, policyIs, shown, refusalIn, shownIn}
 use Rattle.volume.specs.Checks.{isPolicyRefused, isBadKind, isBadKeyLength, isNonceNeeded}
 use Rattle.volume.specs.Sound.{KeyLength}
 use Rattle.volume.specs.PolicyClause.{WouldLack}
-use Rattle.volume.specs.Meanings.{AnswersStand, PlainMeanings}
+use Rattle.volume.specs.Meanings.{AnswersStand, ViewsMean, PlainMeanings}
 use Rattle.volume.specs.declared.Inode.{Inode}
+use Rattle.volume.proofs.Kept.{refusal≢none}
 use Rattle.volume.proofs.SoundPolicy.{lacks-policy, not-lacking}
 
 pub key-length : (n : ℕ) → (isBadKeyLength n ≡ false) ↔ KeyLength n
@@ -54,10 +57,37 @@ answers = record {
   show-refused = λ e. refl;
 }
 
+refusal : (a : Answer) (n : ℕ) → refusalIn a ≡ some n → a ≡ refused n
+refusal (refused m) n h = cc
+refusal done n h = absurd (refusal≢none n (sym h))
+refusal (created i e) n h = absurd (refusal≢none n (sym h))
+refusal (at e) n h = absurd (refusal≢none n (sym h))
+refusal (policyIs p) n h = absurd (refusal≢none n (sym h))
+refusal (shown s) n h = absurd (refusal≢none n (sym h))
+
+shown-entry : (a : Answer) (s : ShownEntry) → shownIn a ≡ some s → a ≡ shown s
+shown-entry (refused m) s h = cc
+shown-entry done s h = cc
+shown-entry (created i e) s h = cc
+shown-entry (at e) s h = cc
+shown-entry (policyIs p) s h = cc
+shown-entry (shown t) s h = cc
+
+views : ViewsMean
+views = record {
+  key-lent = λ d k. refl;
+  name-lent = λ e b. refl;
+  block-sealed = λ i n b. refl;
+  block-opened = λ i n b. refl;
+  refusal = λ a n. (refusal a n, ap refusalIn);
+  shown-entry = λ a s. (shown-entry a s, ap shownIn);
+}
+
 pub plain-meanings : PlainMeanings
 unfolding zeros policyBytes
 plain-meanings = record {
   answers = answers;
+  views = views;
   key-length = key-length;
   kind = kind;
   nonce-needed = nonce-needed;

@@ -1,4 +1,4 @@
--- The two runs of demand 3, proved for all thirteen requests and for any lawful cipher. Each list by itself is compared with its identity run, that of the same
+-- The two runs of demand 3, proved for all requests and for any lawful cipher. Each list by itself is compared with its identity run, that of the same
 -- list with zeros for keys; the two lists have one identity run, since they agree but for their keys. Assumes nothing.
 use Prim.Native.Nat.{ℕ, suc}
 use mathlib.Core.Path.{_≡_, refl, sym, _∙_, ap, ap₂, subst, subst₂}
@@ -8,28 +8,28 @@ use mathlib.Core.List.{List, [], _∷_, _++_, map, List·Memᴰ, List·Memᴰ·n
 use mathlib.Core.Option.{Option, some, none}
 use lib.ListN.{length, getD, take, drop, replicate, length-replicate, take-append-drop}
 use lib.Seq.{drop-at}
-use lib.Dec.{T, eqb, lit<}
+use lib.Dec.{T, lit<}
 use Rattle.lists.specs.Bytes.{Bytes, ByteList, same, zeros, laidOver}
 use Rattle.lists.proofs.Tests.{same-eq, same-self, if-true, if-false}
 use Rattle.lists.proofs.Tables.{all-set}
 use Rattle.lists.proofs.Slots.{all-same}
 use Rattle.errno.specs.Refusals.{number}
-use Rattle.errno.specs.declared.Errno.the-variants.{EUCLEAN}
 use Rattle.errno.specs.declared.Checked.{Checked}
 use Rattle.fscrypt.specs.Cipher.{Cipher, Lawful}
 use Rattle.lists.proofs.ByteStrings.{length-zeros}
 use Rattle.volume.specs.Volume.{keySlots, inodeSlots, entrySlots, noKey, noInode, plainInode, noEntry, nameOf, fresh}
-use Rattle.volume.specs.Request.{Request, addKey, removeKey, setPolicy, getPolicy, create, link, rename, exchange, remove, find, show, seal, unseal, Answer, refused, Outcome, Typed, AllTyped, Form, Plain, Decrypted, Encoded}
+use Rattle.volume.specs.Request.{Request, addKey, removeKey, setPolicy, getPolicy, create, link, rename, exchange, remove, find, show, seal, unseal, lends, Form, Plain, Decrypted, Encoded, Answer, refused, Outcome, Typed, AllTyped}
 use Rattle.volume.specs.Lookup.{isFreeKey, inodeAt, isVacant}
 use Rattle.volume.specs.Step.{lent, settle, step}
 use Rattle.volume.specs.Run.{Moment, momentOf, runFrom, run}
 use Rattle.volume.specs.Sound.{slotAt}
 use Rattle.volume.specs.GivenNames.{Names, namedBy, after, namesFrom, given}
-use Rattle.volume.specs.TwoRuns.{blankRequest, OneKeyEach, blankKey, blankEntry, blankVolume, blankBuffer, blank, NamesAsGiven, TwoRuns}
+use Rattle.volume.specs.TwoRuns.{SameButKeys, no-more, same-request, other-key, OneKeyEach, blankKey, blankEntry, blankVolume, blankBuffer, blank, NamesAsGiven, TwoRuns}
 use Rattle.volume.specs.declared.Key.{Key}
 use Rattle.volume.specs.declared.Inode.{Inode}
 use Rattle.volume.specs.declared.Entry.{Entry}
 use Rattle.volume.specs.declared.Volume.{Volume}
+use Rattle.volume.proofs.Touching.{Touches, asks, adds-key, removes-key, sets-policy, creates, links, renames, exchanges, removes, touches}
 use Rattle.volume.proofs.Twin.{identity, Setting, Alike, both-refuse, both-fine, keyFor, encName, encKey, encEntry, enc, KeyOk, InodeOk, EntryOk, Inv, Fits, ShownForm, ShownRight, StepTwin, Same}
 use Rattle.volume.proofs.TwinLookup.{enc-length}
 use Rattle.volume.proofs.TwinKeys.{addKey-twin, removeKey-twin, getPolicy-twin, find-twin, seal-twin, unseal-twin}
@@ -37,10 +37,46 @@ use Rattle.volume.proofs.TwinNames.{setPolicy-twin, create-twin, link-t
 use Rattle.volume.proofs.TwinMoves.{exchange-twin, remove-twin}
 use Rattle.volume.proofs.TwinShow.{show-twin}
 
+-- ---- a request adds a key, or it adds none
+
+data Keyed : Request → Type 0 where
+  with-key : (d k : Bytes) → Keyed (addKey d k)
+  keyless : {r : Request} → Keyed r
+
+abbrev keyedBy : {r : Request} → Touches r → Keyed r
+keyedBy (asks answers leaves unnaming) = keyless
+keyedBy (adds-key d k) = with-key d k
+keyedBy (removes-key d) = keyless
+keyedBy (sets-policy i p x) = keyless
+keyedBy (creates p kind n x) = keyless
+keyedBy (links i p n) = keyless
+keyedBy (renames e p n) = keyless
+keyedBy (exchanges a b) = keyless
+keyedBy (removes e) = keyless
+
+abbrev keyed : (r : Request) → Keyed r
+keyed r = keyedBy (touches r)
+
+-- the request with zeros for the bytes of its key
+abbrev blanked : {r : Request} → Keyed r → Request
+blanked (with-key d k) = addKey d (zeros (length k))
+blanked (keyless {r}) = r
+
+blankRequest : Request → Request
+blankRequest r = blanked (keyed r)
+
+-- the key that a request offers under this descriptor, or else these bytes
+abbrev offeredBy : {r : Request} → Keyed r → Bytes → Bytes → Bytes
+offeredBy (with-key d′ k) d k₀ = cond (same d′ d) k k₀
+offeredBy keyless d k₀ = k₀
+
+offered : Request → Bytes → Bytes → Bytes
+offered r d k₀ = offeredBy (keyed r) d k₀
+
 -- ---- one request
 
 request-twin : (S : Setting) {g : Names} (v : Volume) (ok : Inv S g v) (r : Request) → Typed r → Fits S r → Same S g v r (blankRequest r)
-unfolding blankRequest
+unfolding blankRequest touches
 request-twin S v ok (addKey d k) t h = addKey-twin S v ok d k (h d k refl)
 request-twin S v ok (removeKey d) t h = removeKey-twin S v ok d
 request-twin S v ok (setPolicy i p x) t h = setPolicy-twin S v ok i p x (t .2)
@@ -55,81 +91,28 @@ request-twin S v ok (show e b) t h = show-twin S v ok e b
 request-twin S v ok (seal i n b) t h = seal-twin S v ok i n b
 request-twin S v ok (unseal i n b) t h = unseal-twin S v ok i n b
 
--- the key that a request offers under this descriptor, or else these bytes
-offered : Request → Bytes → Bytes → Bytes
-offered (addKey d′ k) d k₀ = cond (same d′ d) k k₀
-offered (removeKey d′) d k₀ = k₀
-offered (setPolicy i p x) d k₀ = k₀
-offered (getPolicy i) d k₀ = k₀
-offered (create p kind n x) d k₀ = k₀
-offered (link i p n) d k₀ = k₀
-offered (rename e p n) d k₀ = k₀
-offered (exchange a b) d k₀ = k₀
-offered (remove e) d k₀ = k₀
-offered (find p n) d k₀ = k₀
-offered (show e b) d k₀ = k₀
-offered (seal i n b) d k₀ = k₀
-offered (unseal i n b) d k₀ = k₀
-
--- a request adds a key, or it has none
-data Sorted : Request → Type 0 where
-  adds : (d k : Bytes) → Sorted (addKey d k)
-  keyless : {r : Request} → blankRequest r ≡ r → ((d k₀ : Bytes) → offered r d k₀ ≡ k₀) → Sorted r
-
-sorted : (r : Request) → Sorted r
-unfolding blankRequest offered
-sorted (addKey d k) = adds d k
-sorted (removeKey d) = keyless refl (λ d k. refl)
-sorted (setPolicy i p x) = keyless refl (λ d k. refl)
-sorted (getPolicy i) = keyless refl (λ d k. refl)
-sorted (create p kind n x) = keyless refl (λ d k. refl)
-sorted (link i p n) = keyless refl (λ d k. refl)
-sorted (rename e p n) = keyless refl (λ d k. refl)
-sorted (exchange a b) = keyless refl (λ d k. refl)
-sorted (remove e) = keyless refl (λ d k. refl)
-sorted (find p n) = keyless refl (λ d k. refl)
-sorted (show e b) = keyless refl (λ d k. refl)
-sorted (seal i n b) = keyless refl (λ d k. refl)
-sorted (unseal i n b) = keyless refl (λ d k. refl)
-
-blank-lent : (r : Request) (n : ℕ) → blankBuffer r (refused n) (lent r) ≡ blankBuffer r (refused n) (lent (blankRequest r))
+blank-lent : (r : Request) (n : ℕ) → blankBuffer (lends r) (refused n) (lent r) ≡ blankBuffer (lends r) (refused n) (lent (blankRequest r))
 unfolding blankBuffer blankRequest lent
-blank-lent r n = go (sorted r)
+blank-lent r n = go (keyed r)
   where
-    go : {r : Request} → Sorted r → blankBuffer r (refused n) (lent r) ≡ blankBuffer r (refused n) (lent (blankRequest r))
-    go (adds d k) = ap zeros (sym (length-zeros (length k)))
-    go (keyless {r} e f) = ap (λ (q : Request). blankBuffer r (refused n) (lent q)) (sym e)
+    go : {r : Request} (k : Keyed r) → blankBuffer (lends r) (refused n) (lent r) ≡ blankBuffer (lends r) (refused n) (lent (blanked k))
+    go (with-key d k) = ap zeros (sym (length-zeros (length k)))
+    go keyless = refl
 
-blank-same : (r : Request) (a : Answer) (b : Bytes) → blankBuffer r a b ≡ blankBuffer (blankRequest r) a b
+blank-same : (r : Request) (a : Answer) (b : Bytes) → blankBuffer (lends r) a b ≡ blankBuffer (lends (blankRequest r)) a b
 unfolding blankBuffer blankRequest
-blank-same r a b = go (sorted r)
+blank-same r a b = go (keyed r)
   where
-    go : {r : Request} → Sorted r → blankBuffer r a b ≡ blankBuffer (blankRequest r) a b
-    go (adds d k) = refl
-    go (keyless e f) = ap (λ (q : Request). blankBuffer q a b) (sym e)
+    go : {r : Request} (k : Keyed r) → blankBuffer (lends r) a b ≡ blankBuffer (lends (blanked k)) a b
+    go (with-key d k) = refl
+    go keyless = refl
 
-blank-blank : (r : Request) → blankRequest (blankRequest r) ≡ blankRequest r
-unfolding blankRequest
-blank-blank r = go (sorted r)
-  where
-    go : {r : Request} → Sorted r → blankRequest (blankRequest r) ≡ blankRequest r
-    go (adds d k) = ap (λ (n : ℕ). addKey d (zeros n)) (length-zeros (length k))
-    go (keyless e f) = ap blankRequest e
-
-shown-refused : (g : Names) (r : Request) (n : ℕ) (b : Bytes) → T (not (eqb n (number EUCLEAN))) → ShownRight g r (refused n) b
-shown-refused g (addKey d k) n b t = tt
-shown-refused g (removeKey d) n b t = tt
-shown-refused g (setPolicy i p x) n b t = tt
-shown-refused g (getPolicy i) n b t = tt
-shown-refused g (create p kind m x) n b t = tt
-shown-refused g (link i p m) n b t = tt
-shown-refused g (rename e p m) n b t = tt
-shown-refused g (exchange c d) n b t = tt
-shown-refused g (remove e) n b t = tt
-shown-refused g (find p m) n b t = tt
-shown-refused g (show e lent) n b t = t
-shown-refused g (seal i m lent) n b t = tt
-shown-refused g (unseal i m lent) n b t = tt
+-- lists that agree but for their keys are one, once blanked
+one-list : {rs₁ rs₂ : List Request} → SameButKeys rs₁ rs₂ → map blankRequest rs₁ ≡ map blankRequest rs₂
+unfolding blankRequest touches
+one-list no-more = refl
+one-list (same-request r h) = ap (blankRequest r ∷_) (one-list h)
+one-list (other-key d k₁ k₂ l h) = ap₂ (λ (n : ℕ) (rs : List Request). addKey d (zeros n) ∷ rs) l (one-list h)
 
 -- ---- runs
 
@@ -152,11 +135,11 @@ module _ (S : Setting) where
   AllFit [] = Unit {0}
   AllFit (r ∷ rs) = Typed r × Fits S r × AllFit rs
 
-  settle-twin : {g : Names} (v : Volume) → Inv S g v → (r : Request) {k k′ : Checked} {o o′ : Outcome} → Alike (StepTwin S r g o o′) k k′
+  settle-twin : {g : Names} (v : Volume) → Inv S g v → (r : Request) {k k′ : Checked} {o o′ : Outcome} → Alike (lends r) (StepTwin S r g o o′) k k′
       → StepTwin S r g (settle (enc S v) (lent r) k o) (settle v (lent (blankRequest r)) k′ o′)
   unfolding settle namedBy
   settle-twin {g} v ok r (both-refuse e t) =
-      record { answers = refl; buffers = blank-lent r (number e); volumes = refl; inv = ok; right = shown-refused g r (number e) (lent r) t }
+      record { answers = refl; buffers = blank-lent r (number e); volumes = refl; inv = ok; right = t }
   settle-twin v ok r (both-fine s) = s
 
   step-twin : {g : Names} (v : Volume) → Inv S g v → (r : Request) → Typed r → Fits S r → StepTwin S r g (step (S .cipher) (enc S v) r) (step identity v (blankRequest r))
@@ -201,7 +184,6 @@ module _ (S : Setting) where
   moment-twin : {g : Names} (r : Request) (o o′ : Outcome) → StepTwin S r g o o′ → blank (momentOf r o) ≡ blank (momentOf (blankRequest r) o′)
   unfolding blank momentOf
   moment-twin r o o′ s = λ i. record {
-    request = sym (blank-blank r) i;
     answer = s .answers i;
     buffer = (s .buffers ∙ blank-same r (o′ .answer) (o′ .buffer)) i;
     volume = (ap blankVolume (s .volumes) ∙ blank-volume (o′ .volume) (s .inv)) i;
@@ -253,7 +235,7 @@ names-given : (ms : List Moment) → RunRight (λ e. none) ms → NamesAsGiven m
 names-given ms h =
     record {
       clean = λ past next m q e b r w. right past next m q r w;
-      named = λ past next m q e b r s w f. go (given past (e .0)) (s .form) (s .len) (m .buffer) (right past next m q r w) f;
+      named = λ past next m q e b r s w f. go (given past (e .0)) (s .form) (s .len) (m .buffer) (right past next m q r w e b refl) f;
     }
   where
     right : (past next : List Moment) (m : Moment) → ms ≡ past ++ (m ∷ next) → {r : Request} {a : Answer} → m .request ≡ r → m .answer ≡ a → ShownRight (given past) r a (m .buffer)
@@ -273,20 +255,20 @@ keyIn (r ∷ rs) d = offered r d (keyIn rs d)
 
 -- a descriptor that is offered a key is offered the key of the list
 offered-own : (d k k₀ : Bytes) → offered (addKey d k) d k₀ ≡ k
-unfolding offered
+unfolding offered touches
 offered-own d k k₀ = if-true k k₀ (same-self d)
 
 offered-or : (r : Request) (rs : List Request) (d k₀ : Bytes) → List·Memᴰ (addKey d k₀) rs → List·Memᴰ (addKey d (offered r d k₀)) (r ∷ rs)
 unfolding offered
-offered-or r rs d k₀ m = go (sorted r)
+offered-or r rs d k₀ m = go (keyed r)
   where
     pick : (d′ k : Bytes) (b : Bool) → same d′ d ≡ b → List·Memᴰ (addKey d (cond b k k₀)) (addKey d′ k ∷ rs)
     pick d′ k true e = List·Memᴰ·head (ap (λ (x : Bytes). addKey x k) (sym (same-eq d′ d e)))
     pick d′ k false e = List·Memᴰ·tail m
 
-    go : {r : Request} → Sorted r → List·Memᴰ (addKey d (offered r d k₀)) (r ∷ rs)
-    go (adds d′ k) = pick d′ k (same d′ d) refl
-    go (keyless {r} e f) = subst (λ (k : Bytes). List·Memᴰ (addKey d k) (r ∷ rs)) (sym (f d k₀)) (List·Memᴰ·tail m)
+    go : {r : Request} (k : Keyed r) → List·Memᴰ (addKey d (offeredBy k d k₀)) (r ∷ rs)
+    go (with-key d′ k) = pick d′ k (same d′ d) refl
+    go keyless = List·Memᴰ·tail m
 
 key-offered : (rs : List Request) (d k : Bytes) → List·Memᴰ (addKey d k) rs → List·Memᴰ (addKey d (keyIn rs d)) rs
 unfolding keyIn
@@ -300,15 +282,15 @@ key-offered (r ∷ rs) d k m = go (List·Memᴰ·cases-cons m) (key-offered rs d
 
 offered-bytes : (r : Request) (d k : Bytes) → Typed r → ByteList k → ByteList (offered r d k)
 unfolding offered
-offered-bytes r d k t h = go (sorted r) t
+offered-bytes r d k t h = go (keyed r) t
   where
     pick : (b : Bool) (k′ : Bytes) → ByteList k′ → ByteList (cond b k′ k)
     pick true k′ w = w
     pick false k′ w = h
 
-    go : {r : Request} → Sorted r → Typed r → ByteList (offered r d k)
-    go (adds d′ k′) t = pick (same d′ d) k′ (t .2)
-    go (keyless e f) t = subst ByteList (sym (f d k)) h
+    go : {r : Request} (q : Keyed r) → Typed r → ByteList (offeredBy q d k)
+    go (with-key d′ k′) t = pick (same d′ d) k′ (t .2)
+    go keyless t = h
 
 key-bytes : (rs : List Request) → AllTyped rs → (d : Bytes) → ByteList (keyIn rs d)
 unfolding keyIn
@@ -332,7 +314,7 @@ two-runs C law rs₁ rs₂ typed₁ typed₂ agree one₁ one₂ =
     let t₁ = own-run C law rs₁ typed₁ one₁ in
     let t₂ = own-run C law rs₂ typed₂ one₂ in
     record {
-      same = t₁ .same-run ∙ ap (λ (rs : List Request). map blank (run identity rs)) agree ∙ sym (t₂ .same-run);
+      same = t₁ .same-run ∙ ap (λ (rs : List Request). map blank (run identity rs)) (one-list agree) ∙ sym (t₂ .same-run);
       names₁ = names-given (run C rs₁) (t₁ .right-run);
       names₂ = names-given (run C rs₂) (t₂ .right-run);
     }

@@ -24,7 +24,7 @@ use Rattle.fscrypt.specs.Encoded.{encoded}
 use Rattle.fscrypt.specs.declared.NameRead.{NameRead}
 use Rattle.fscrypt.proofs.Padding.{read-stored, nameBytes-packed}
 use Rattle.volume.specs.Volume.{noInode, noEntry, keyBytes, nameOf, entrySlot}
-use Rattle.volume.specs.Request.{Request, create, link, rename, show, seal, unseal, Answer, refused, done, created, at, shown, Outcome, outcome, Typed, ShownEntry, Form, Plain, Decrypted, Encoded}
+use Rattle.volume.specs.Request.{Request, create, link, rename, show, seal, unseal, Answer, done, created, at, shown, Outcome, outcome, Typed, Form, Plain, Decrypted, Encoded}
 use Rattle.volume.specs.Lookup.{keySlotOf, keyOf, keyPresent, lacksKey, inodeAt, freeInode, entryAt, isVacant, freeEntry}
 use Rattle.volume.specs.DirectoryNames.{derivedKey, nameKey, stored, readName, shownName, isUnreadable, formIn}
 use Rattle.volume.specs.Checks.{blockCheck, showCheck}
@@ -48,9 +48,6 @@ use Rattle.volume.proofs.ContextsStay.{context-stays}
 use Rattle.volume.proofs.Bytewise.{derived-bytes, name-key-bytes, bytewise-kept}
 
 -- what a show answers is no refusal
-pub not-refused : (s : ShownEntry) (m : ℕ) → refused m ≢ shown s
-not-refused s m q = let z : _≡_ {A = ℕ} 0 1 = cc in absurd (omega arith)
-
 -- ---- what is read of a volume by the key of an inode
 
 needed-same : (v w : Volume) (node : Inode) → SameKey v w node → lacksKey w node ≡ lacksKey v node
@@ -97,13 +94,12 @@ module _ (C : Cipher) (law : Lawful C) where
       → (step C v (seal i n b)) .answer ≡ done → step C w (unseal i n ((step C v (seal i n b)) .buffer)) ≡ outcome done b w
   unfolding check effect
   later-opens v w bytes i n b hb q k h =
-      let na : (m : ℕ) → refused m ≢ done = λ m q. let z : _≡_ {A = ℕ} 0 1 = cc in absurd (omega arith) in
-      let fine : blockCheck v i (length b) ≡ Fine = was-fine C v (seal i n b) done na h in
+      let fine : blockCheck v i (length b) ≡ Fine = was-fine C v (seal i n b) done refl h in
       let key = derivedKey C v (inodeAt v i) in
       let sealed = C .seal key n b in
       let again : blockCheck w i (length sealed) ≡ Fine = block-same v w i (length sealed) q k ∙ ap (blockCheck v i) (law .length-seal key n b) ∙ fine in
       let same-key : derivedKey C w (inodeAt w i) ≡ key = ap (derivedKey C w) q ∙ derived-same C v w (inodeAt v i) k in
-      ap (λ (o : Outcome). step C w (unseal i n (o .buffer))) (was-done C v (seal i n b) done na h)
+      ap (λ (o : Outcome). step C w (unseal i n (o .buffer))) (was-done C v (seal i n b) done refl h)
       ∙ done-by C w (unseal i n sealed) again
       ∙ ap (λ (x : Bytes). outcome done (C .unseal x n sealed) w) same-key
       ∙ ap (λ (x : Bytes). outcome done x w) (law .unseal-seal key n b (derived-bytes C law v bytes (inodeAt v i) (bytes .nonces (i .0))) hb)
@@ -113,7 +109,7 @@ module _ (C : Cipher) (law : Lawful C) where
       → step C ((step C v (seal i n b)) .volume) (unseal i n ((step C v (seal i n b)) .buffer)) ≡ outcome done b v
   unfolding effect
   block-opens v bytes i n b hb h =
-      let d = was-done C v (seal i n b) done (λ m q. let z : _≡_ {A = ℕ} 0 1 = cc in absurd (omega arith)) h in
+      let d = was-done C v (seal i n b) done refl h in
       ap (λ (o : Outcome). step C (o .volume) (unseal i n ((step C v (seal i n b)) .buffer))) d ∙ later-opens v v bytes i n b hb refl refl h
 
   -- ---- names: a stored name is shown as it was given
@@ -277,9 +273,8 @@ module _ (C : Cipher) (v w : Volume) (e : EntryNumber) (qx : SameName v w e) (qd
   unfolding check effect
   later-shows n h b room =
       let r = h b room in
-      let na = not-refused (r .0) in
-      let fine = was-fine C v (show e b) (shown (r .0)) na (r .1) in
-      let dv : step C v (show e b) ≡ effect C v (show e b) = was-done C v (show e b) (shown (r .0)) na (r .1) in
+      let fine = was-fine C v (show e b) (shown (r .0)) refl (r .1) in
+      let dv : step C v (show e b) ≡ effect C v (show e b) = was-done C v (show e b) (shown (r .0)) refl (r .1) in
       let dw : step C w (show e b) ≡ effect C w (show e b) = done-by C w (show e b) (check-later (length b) ∙ fine) in
       let nv = shownName C v dir e (nameOf (entryAt v e)) in
       let nw = shownName C w (dirOf w (e .0)) e (nameOf (entryAt w e)) in
@@ -300,8 +295,7 @@ module _ (C : Cipher) (v w : Volume) (e : EntryNumber) (qx : SameName v w e) (qd
 sealed-encrypted : (C : Cipher) (v : Volume) (i : InodeNumber) (n : ℕ) (b : Bytes) → (step C v (seal i n b)) .answer ≡ done → (inodeAt v i) .encrypted ≡ true
 unfolding check
 sealed-encrypted C v i n b h =
-    let na : (m : ℕ) → refused m ≢ done = λ m q. let z : _≡_ {A = ℕ} 0 1 = cc in absurd (omega arith) in
-    block-passed v i (length b) (was-fine C v (seal i n b) done na h) .has-context
+    block-passed v i (length b) (was-fine C v (seal i n b) done refl h) .has-context
 
 pub sealed-opens : (C : Cipher) → Lawful C → SealedOpens C
 sealed-opens C law = record {

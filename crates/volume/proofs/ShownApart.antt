@@ -35,7 +35,6 @@ use Rattle.volume.proofs.Passed.{show-passed}
 use Rattle.volume.proofs.Soundness.{sound}
 use Rattle.volume.proofs.Bytewise.{bytewise}
 use Rattle.volume.proofs.Kept.{was-fine, was-done}
-use Rattle.volume.proofs.SealedOpens.{not-refused}
 
 -- ---- what show answers without the key
 
@@ -61,10 +60,10 @@ module _ (C : Cipher) (v : Volume) where
 
     was-used : Used v (e .0)
     unfolding check
-    was-used = show-passed C v e _ (was-fine C v (show e (h .lent)) (shown (h .entry)) (not-refused (h .entry)) (h .answered)) .entry
+    was-used = show-passed C v e _ (was-fine C v (show e (h .lent)) (shown (h .entry)) refl (h .answered)) .entry
 
     done : step C v (show e (h .lent)) ≡ effect C v (show e (h .lent))
-    done = was-done C v (show e (h .lent)) (shown (h .entry)) (not-refused (h .entry)) (h .answered)
+    done = was-done C v (show e (h .lent)) (shown (h .entry)) refl (h .answered)
 
     was-told : h .entry ≡ told
     unfolding effect

@@ -16,7 +16,7 @@ use Rattle.policy.proofs.Meanings.{valid}
 use Rattle.fscrypt.specs.Cipher.{Cipher, Lawful}
 use Rattle.fscrypt.proofs.NameMeanings.{nameCheck-fine}
 use Rattle.volume.specs.Volume.{keySlots, inodeSlots, entrySlots, noKey, noInode, noEntry, plainInode, nameOf, fresh}
-use Rattle.volume.specs.Request.{Request, addKey, removeKey, setPolicy, getPolicy, create, link, rename, exchange, remove, find, show, seal, unseal, Typed, AllTyped}
+use Rattle.volume.specs.Request.{Request, Typed, AllTyped}
 use Rattle.volume.specs.Lookup.{isFreeKey, inodeAt, isVacant, climbFrom}
 use Rattle.volume.specs.Step.{check, effect, step}
 use Rattle.volume.specs.Run.{Moment, run}
@@ -28,6 +28,7 @@ use Rattle.volume.specs.declared.Volume.{Volume}
 use Rattle.volume.specs.declared.Met.the-variants.{Root, Neither}
 use Rattle.volume.proofs.PlainMeanings.{key-length}
 use Rattle.volume.proofs.Kept.{volume-has, kept-always}
+use Rattle.volume.proofs.Touching.{Touches, asks, adds-key, removes-key, sets-policy, creates, links, renames, exchanges, removes, touches}
 pub use Rattle.volume.proofs.Bytewise.{fresh-bytes, bytewise}
 use Rattle.volume.proofs.SoundCore.{Core, KeyOk, no-key-ok, InodeOk, plain-ok, no-inode-ok}
 use Rattle.volume.proofs.SoundClimb.{num, Any, Up, hasEnded, in-range, up-short, climb-root, climb-ends, rooted-below, below-rooted}
@@ -213,25 +214,21 @@ fresh-sound = inv-sound fresh fresh-inv
 -- ---- requests and runs
 
 module _ (C : Cipher) (law : Lawful C) where
-  effect-keeps : (v : Volume) → Inv v → (r : Request) → Typed r → check C v r ≡ Fine → Inv ((effect C v r) .volume)
+  effect-keeps : (v : Volume) → Inv v → {r : Request} → Touches r → Typed r → check C v r ≡ Fine → Inv ((effect C v r) .volume)
   unfolding check effect
-  effect-keeps v ok (addKey d k) t h = addKey-keeps C v ok d k (t .0) h
-  effect-keeps v ok (removeKey d) t h = removeKey-keeps C v ok d
-  effect-keeps v ok (setPolicy i p x) t h = setPolicy-keeps C v ok i p x (t .1) h
-  effect-keeps v ok (getPolicy i) t h = ok
-  effect-keeps v ok (create p kind n x) t h = create-keeps C law v ok p kind n x (t .1) h
-  effect-keeps v ok (link i p n) t h = link-keeps C law v ok i p n h
-  effect-keeps v ok (rename e p n) t h = rename-keeps C law v ok e p n h
-  effect-keeps v ok (exchange a b) t h = exchange-keeps C v ok a b h
-  effect-keeps v ok (remove e) t h = remove-keeps C v ok e h
-  effect-keeps v ok (find p n) t h = ok
-  effect-keeps v ok (show e b) t h = ok
-  effect-keeps v ok (seal i n b) t h = ok
-  effect-keeps v ok (unseal i n b) t h = ok
+  effect-keeps v ok (asks answers leaves unnaming) t h = subst Inv (sym (leaves C v)) ok
+  effect-keeps v ok (adds-key d k) t h = addKey-keeps C v ok d k (t .0) h
+  effect-keeps v ok (removes-key d) t h = removeKey-keeps C v ok d
+  effect-keeps v ok (sets-policy i p x) t h = setPolicy-keeps C v ok i p x (t .1) h
+  effect-keeps v ok (creates p kind n x) t h = create-keeps C law v ok p kind n x (t .1) h
+  effect-keeps v ok (links i p n) t h = link-keeps C law v ok i p n h
+  effect-keeps v ok (renames e p n) t h = rename-keeps C law v ok e p n h
+  effect-keeps v ok (exchanges a b) t h = exchange-keeps C v ok a b h
+  effect-keeps v ok (removes e) t h = remove-keeps C v ok e h
 
   -- any request keeps any sound volume sound
   pub sound-kept : (v : Volume) → Sound v → (r : Request) → Typed r → Sound ((step C v r) .volume)
-  sound-kept v s r t = volume-has C v r Sound s (λ h. inv-sound ((effect C v r) .volume) (effect-keeps v (sound-inv v s) r t h))
+  sound-kept v s r t = volume-has C v r Sound s (λ h. inv-sound ((effect C v r) .volume) (effect-keeps v (sound-inv v s) (touches r) t h))
 
   -- every volume of every run that starts fresh is sound
   pub sound : (rs : List Request) → AllTyped rs → (m : Moment) → List·Memᴰ m (run C rs) → Sound (m .volume)

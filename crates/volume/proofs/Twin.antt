@@ -4,7 +4,7 @@ use Prim.Native.Nat.{ℕ}
 use mathlib.Core.Path.{_≡_, refl}
 use mathlib.Core.Bool.{Bool, true, false, cond, not, true≢false, false≢true}
 use mathlib.Core.List.{List, _++_, map}
-use mathlib.Core.Option.{Option, some}
+use mathlib.Core.Option.{Option, some, none}
 use lib.ListN.{length, getD, take, drop}
 use lib.Dec.{T, eqb}
 use Rattle.lists.specs.Bytes.{Bytes, ByteList, laidOver}
@@ -17,12 +17,13 @@ use Rattle.policy.specs.Policies.{nameKeySize}
 use Rattle.fscrypt.specs.Cipher.{Cipher, Lawful}
 use Rattle.fscrypt.specs.Names.{nameCheck, padded}
 use Rattle.volume.specs.Volume.{entrySlots, noKey, noInode, nameOf}
-use Rattle.volume.specs.Request.{Request, addKey, removeKey, setPolicy, getPolicy, create, link, rename, exchange, remove, find, show, seal, unseal, Answer, refused, done, created, at, policyIs, shown, Outcome, Form, Plain, Decrypted, Encoded}
+use Rattle.volume.specs.Request.{Request, addKey, show, Lent, no-buffer, key-buffer, name-buffer, block-buffer, lends, Form, Plain, Decrypted, Encoded, ShownEntry, Answer, refusalIn, shownIn, Outcome}
 use Rattle.volume.specs.Lookup.{isFreeKey, descriptorOf, isVacant}
 use Rattle.volume.specs.Step.{check, effect}
 use Rattle.volume.specs.Sound.{slotAt, Used, dirOf}
 use Rattle.volume.specs.GivenNames.{Names, after}
 use Rattle.volume.specs.TwoRuns.{blankBuffer}
+use Rattle.ids.specs.declared.EntryNumber.{EntryNumber}
 use Rattle.volume.specs.declared.Key.{Key}
 use Rattle.volume.specs.declared.Inode.{Inode}
 use Rattle.volume.specs.declared.Entry.{Entry}
@@ -40,38 +41,55 @@ pub record Setting : Type 0 where
 
 -- ---- two tables of checks
 
-abbrev pub Clean : Errno → Type 0
-Clean e = T (not (eqb (number e) (number EUCLEAN)))
+-- the number is not EUCLEAN's
+abbrev pub NotUnclean : ℕ → Type 0
+NotUnclean n = T (not (eqb n (number EUCLEAN)))
 
--- both refuse with one number, which is not EUCLEAN's, or both come to Fine and Q holds
-pub data Alike (Q : Type 0) : Checked → Checked → Type 0 where
-  both-refuse : (e : Errno) → Clean e → Alike Q (Refused e) (Refused e)
-  both-fine : Q → Alike Q Fine Fine
+-- a request that lends this refuses with this number: where it lends room for a name, as show does, the number is not EUCLEAN's
+abbrev pub Clean : Lent → ℕ → Type 0
+Clean no-buffer n = Unit {0}
+Clean (key-buffer k) n = Unit {0}
+Clean (name-buffer b) n = NotUnclean n
+Clean (block-buffer b) n = Unit {0}
+
+-- a number that is not EUCLEAN's is clean of every request
+clean : (l : Lent) (n : ℕ) → NotUnclean n → Clean l n
+clean no-buffer n t = tt
+clean (key-buffer k) n t = tt
+clean (name-buffer b) n t = t
+clean (block-buffer b) n t = tt
+
+-- both refuse with one number, which is clean, or both come to Fine and Q holds
+pub data Alike (l : Lent) (Q : Type 0) : Checked → Checked → Type 0 where
+  both-refuse : (e : Errno) → Clean l (number e) → Alike l Q (Refused e) (Refused e)
+  both-fine : Q → Alike l Q Fine Fine
 
 -- a line that is a test: the same test in both, and what follows is only asked once it has passed
-pub test : {Q : Type 0} (e : Errno) {c c′ : Bool} {x y : Checked} → Clean e → c ≡ c′ → (c′ ≡ false → Alike Q x y) → Alike Q (_>>_ (c ⇒ e) x) (_>>_ (c′ ⇒ e) y)
+pub test : {l : Lent} {Q : Type 0} (e : Errno) {c c′ : Bool} {x y : Checked} → NotUnclean (number e) → c ≡ c′ → (c′ ≡ false → Alike l Q x y)
+    → Alike l Q (_>>_ (c ⇒ e) x) (_>>_ (c′ ⇒ e) y)
 unfolding _>>_ _⇒_
-test {Q} e {c} {c′} {x} {y} t p f = go c c′ p f
+test {l} {Q} e {c} {c′} {x} {y} t p f = go c c′ p f
   where
-    go : (c c′ : Bool) → c ≡ c′ → (c′ ≡ false → Alike Q x y) → Alike Q (_>>_ (c ⇒ e) x) (_>>_ (c′ ⇒ e) y)
-    go true true p f = both-refuse e t
+    go : (c c′ : Bool) → c ≡ c′ → (c′ ≡ false → Alike l Q x y) → Alike l Q (_>>_ (c ⇒ e) x) (_>>_ (c′ ⇒ e) y)
+    go true true p f = both-refuse e (clean l (number e) t)
     go true false p f = absurd (true≢false p)
     go false true p f = absurd (false≢true p)
     go false false p f = f refl
 
 -- a line that refuses in neither
-pub never : {Q : Type 0} (e : Errno) {c c′ : Bool} {x y : Checked} → c ≡ false → c′ ≡ false → Alike Q x y → Alike Q (_>>_ (c ⇒ e) x) (_>>_ (c′ ⇒ e) y)
+pub never : {l : Lent} {Q : Type 0} (e : Errno) {c c′ : Bool} {x y : Checked} → c ≡ false → c′ ≡ false → Alike l Q x y
+    → Alike l Q (_>>_ (c ⇒ e) x) (_>>_ (c′ ⇒ e) y)
 unfolding _>>_ _⇒_
-never {Q} e {c} {c′} {x} {y} p q f = rw (p, q) f
+never {l} {Q} e {c} {c′} {x} {y} p q f = rw (p, q) f
 
 -- a line that is a table
-pub part : {P Q : Type 0} {a b x y : Checked} → Alike P a b → (P → Alike Q x y) → Alike Q (_>>_ a x) (_>>_ b y)
+pub part : {l : Lent} {P Q : Type 0} {a b x y : Checked} → Alike l P a b → (P → Alike l Q x y) → Alike l Q (_>>_ a x) (_>>_ b y)
 unfolding _>>_
 part (both-refuse e t) f = both-refuse e t
 part (both-fine p) f = f p
 
 -- a table at the end
-pub last : {P Q : Type 0} {a b : Checked} → Alike P a b → (P → Q) → Alike Q a b
+pub last : {l : Lent} {P Q : Type 0} {a b : Checked} → Alike l P a b → (P → Q) → Alike l Q a b
 last (both-refuse e t) f = both-refuse e t
 last (both-fine p) f = both-fine (f p)
 
@@ -145,38 +163,25 @@ ShownForm o Plain n b = o ≡ some (take n b)
 ShownForm o Decrypted n b = o ≡ some (take n b)
 ShownForm o Encoded n b = Unit {0}
 
-abbrev pub ShownAnswer : Option Bytes → Answer → Bytes → Type 0
-ShownAnswer o (refused n) b = T (not (eqb n (number EUCLEAN)))
-ShownAnswer o done b = Unit {0}
-ShownAnswer o (created i e) b = Unit {0}
-ShownAnswer o (at e) b = Unit {0}
-ShownAnswer o (policyIs p) b = Unit {0}
-ShownAnswer o (shown s) b = ShownForm o (s .form) (s .len) b
+-- by the refusal in the answer and the entry that it shows
+abbrev pub RightBy : Names → Request → Option ℕ → Option ShownEntry → Bytes → Type 0
+RightBy g r (some n) s b = Clean (lends r) n
+RightBy g r none (some s) b = (e : EntryNumber) (lent : Bytes) → r ≡ show e lent → ShownForm (g (e .0)) (s .form) (s .len) b
+RightBy g r none none b = Unit {0}
 
 abbrev pub ShownRight : Names → Request → Answer → Bytes → Type 0
-ShownRight g (addKey d k) a b = Unit {0}
-ShownRight g (removeKey d) a b = Unit {0}
-ShownRight g (setPolicy i p x) a b = Unit {0}
-ShownRight g (getPolicy i) a b = Unit {0}
-ShownRight g (create p kind n x) a b = Unit {0}
-ShownRight g (link i p n) a b = Unit {0}
-ShownRight g (rename e p n) a b = Unit {0}
-ShownRight g (exchange c d) a b = Unit {0}
-ShownRight g (remove e) a b = Unit {0}
-ShownRight g (find p n) a b = Unit {0}
-ShownRight g (show e lent) a b = ShownAnswer (g (e .0)) a b
-ShownRight g (seal i n lent) a b = Unit {0}
-ShownRight g (unseal i n lent) a b = Unit {0}
+ShownRight g r a b = RightBy g r (refusalIn a) (shownIn a) b
 
 -- ---- two outcomes of a request, of which the second is the identity run's
 
 pub record StepTwin (S : Setting) (r : Request) (g : Names) (o o′ : Outcome) : Type 0 where
   pub answers : o .answer ≡ o′ .answer
-  pub buffers : blankBuffer r (o .answer) (o .buffer) ≡ blankBuffer r (o′ .answer) (o′ .buffer)
+  pub buffers : blankBuffer (lends r) (o .answer) (o .buffer) ≡ blankBuffer (lends r) (o′ .answer) (o′ .buffer)
   pub volumes : o .volume ≡ enc S (o′ .volume)
   pub inv : Inv S (after g r (o′ .answer)) (o′ .volume)
   pub right : ShownRight g r (o .answer) (o .buffer)
 
 -- what is claimed of each request; r′ is r with its key blanked
 unfoldable pub Same : Setting → Names → Volume → Request → Request → Type 0
-Same S g v r r′ = Alike (StepTwin S r g (effect (S .cipher) (enc S v) r) (effect identity v r′)) (check (S .cipher) (enc S v) r) (check identity v r′)
+Same S g v r r′ =
+    Alike (lends r) (StepTwin S r g (effect (S .cipher) (enc S v) r) (effect identity v r′)) (check (S .cipher) (enc S v) r) (check identity v r′)

@@ -31,7 +31,7 @@ use Rattle.volume.specs.declared.Key.{Key}
 use Rattle.volume.specs.declared.Inode.{Inode}
 use Rattle.volume.specs.declared.Entry.{Entry}
 use Rattle.volume.specs.declared.Volume.{Volume}
-use Rattle.volume.specs.Request.{Plain, Decrypted, Encoded}
+use Rattle.volume.specs.Request.{Lent, Plain, Decrypted, Encoded}
 use Rattle.volume.specs.declared.Met.{Met}
 use Rattle.volume.specs.declared.Met.the-variants.{Moved, Root}
 use Rattle.volume.proofs.Passed.{key-present}
@@ -221,7 +221,7 @@ module _ (S : Setting) where
 
     -- ---- tables that requests share
 
-    pub name-part : (n : Bytes) → Alike (nameCheck n ≡ Fine) (nameCheck n) (nameCheck n)
+    pub name-part : {l : Lent} (n : Bytes) → Alike l (nameCheck n ≡ Fine) (nameCheck n) (nameCheck n)
     unfolding nameCheck
     name-part n =
         test _ tt refl λ h₁.
@@ -229,7 +229,7 @@ module _ (S : Setting) where
         test _ tt refl λ h₃.
         both-fine (sym (skip _ _ _ _ h₁ (skip _ _ _ _ h₂ (skip _ _ _ _ h₃ refl))))
 
-    pub directory-part : (p : InodeNumber) → Alike ((inodeAt v p) .kind ≡ 1) (directoryCheck (enc S v) p) (directoryCheck v p)
+    pub directory-part : {l : Lent} (p : InodeNumber) → Alike l ((inodeAt v p) .kind ≡ 1) (directoryCheck (enc S v) p) (directoryCheck v p)
     unfolding directoryCheck
     directory-part p =
         test _ tt refl λ h₁.

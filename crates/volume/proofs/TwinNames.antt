@@ -11,7 +11,7 @@ use Rattle.lists.specs.Bytes.{Bytes, ByteList, firstAt}
 use Rattle.errno.specs.declared.Checked.the-variants.{Fine}
 use Rattle.policy.specs.Policies.{policyCheck, readPolicy}
 use Rattle.volume.specs.Volume.{entrySlots, noInode, plainInode, encryptedInode, entrySlot}
-use Rattle.volume.specs.Request.{setPolicy, create, link, rename, done, created, at, outcome}
+use Rattle.volume.specs.Request.{setPolicy, create, link, rename, Lent, no-buffer, done, created, at, outcome}
 use Rattle.volume.specs.Lookup.{lacksKey, inodeAt, isFree, freeInode, nonceHolder, entryAt, isVacant, freeEntry, hasEntries, isUnderItself}
 use Rattle.volume.specs.DirectoryNames.{stored}
 use Rattle.volume.specs.Checks.{isPolicyRefused, isNonceNeeded, nonceCheck, samePolicyCheck, firstPolicyCheck, setPolicyCheck, createCheck, linkCheck, renameCheck}
@@ -32,14 +32,14 @@ use Rattle.volume.proofs.TwinLookup.{needed-twin, entry-twin, free-entr
 use Rattle.volume.proofs.TwinStore.{nonces-set, kept-inv, kept-enc, store-inv, store-enc}
 
 module _ (S : Setting) {g : Names} (v : Volume) (ok : Inv S g v) where
-  policy-part : (p : Bytes) → Alike (Unit {0}) (policyCheck p) (policyCheck p)
+  policy-part : {l : Lent} (p : Bytes) → Alike l (Unit {0}) (policyCheck p) (policyCheck p)
   unfolding policyCheck
   policy-part p =
       test _ tt refl λ h₁.
       test _ tt refl λ h₂.
       both-fine tt
 
-  nonce-part : (x : Bytes) → Alike (Unit {0}) (nonceCheck (enc S v) x) (nonceCheck v x)
+  nonce-part : {l : Lent} (x : Bytes) → Alike l (Unit {0}) (nonceCheck (enc S v) x) (nonceCheck v x)
   unfolding nonceCheck nonceHolder
   nonce-part x = test _ tt refl λ h. both-fine tt
 
@@ -62,7 +62,7 @@ module _ (S : Setting) {g : Names} (v : Volume) (ok : Inv S g v) where
 
       -- by whether the inode is encrypted: its policy is compared, or it gets its first one
       go : (c : Bool)
-          → Alike (StepTwin S (setPolicy i p x) g (outcome done [] (cond c (enc S v) (withInodes (enc S v) is′))) (outcome done [] (cond c v (withInodes v is′))))
+          → Alike no-buffer (StepTwin S (setPolicy i p x) g (outcome done [] (cond c (enc S v) (withInodes (enc S v) is′))) (outcome done [] (cond c v (withInodes v is′))))
           (cond c (samePolicyCheck (inodeAt v i) ((readPolicy p) .policy)) (firstPolicyCheck (enc S v) i x))
           (cond c (samePolicyCheck (inodeAt v i) ((readPolicy p) .policy)) (firstPolicyCheck v i x))
       go true = test _ tt refl λ h. both-fine (record { answers = refl; buffers = refl; volumes = refl; inv = ok; right = tt })
@@ -105,7 +105,7 @@ module _ (S : Setting) {g : Names} (v : Volume) (ok : Inv S g v) where
         right = tt;
       })
     where
-      needed-nonce : (c : Bool) → Alike (Unit {0}) (cond c (nonceCheck (enc S v) x) Fine) (cond c (nonceCheck v x) Fine)
+      needed-nonce : (c : Bool) → Alike no-buffer (Unit {0}) (cond c (nonceCheck (enc S v) x) Fine) (cond c (nonceCheck v x) Fine)
       needed-nonce true = nonce-part x
       needed-nonce false = both-fine tt
 

@@ -2,7 +2,7 @@
 -- ciphertexts of one length have encodings of one length, with the same mark and the same two digits. Assumes nothing.
 use Prim.Native.Nat.{ℕ, _≤_, _<_}
 use native.Mathlib.Omega.{arith}
-use mathlib.Core.Path.{_≡_, refl, sym, _∙_, ap, ap₂, subst}
+use mathlib.Core.Path.{_≡_, refl, sym, _∙_, ap, ap₂, subst, subst₂}
 use mathlib.Core.Logic.{_≢_}
 use mathlib.Core.Bool.{Bool, true, false, cond, not, _&&_, true≢false, false≢true}
 use mathlib.Core.List.{_∷_, _++_, append-assoc}
@@ -209,5 +209,7 @@ module _ (S : Setting) {g : Names} (v : Volume) (ok : Inv S g v) where
         buffers = ap (λ (k : Form). blankShown k (length (y (f x))) (laidOver b (y (f x)))) form-is ∙ t .shown-buffers;
         volumes = refl;
         inv = ok;
-        right = subst (λ (k : Form). ShownForm (g (e .0)) k (length (y (f x))) (laidOver b (y (f x)))) (sym form-is) (t .shown-right);
+        right = λ e′ lent q.
+            let same-entry : e .0 ≡ e′ .0 = cc in
+            subst₂ (λ (k : Form) (i : ℕ). ShownForm (g i) k (length (y (f x))) (laidOver b (y (f x)))) (sym form-is) same-entry (t .shown-right);
       })))

@@ -1,4 +1,4 @@
--- A list of each of the thirteen requests is typed where its descriptor and nonce have their lengths and its bytes are bytes: what the claims ask of a list leaves
+-- A list of each of the requests is typed where its descriptor and nonce have their lengths and its bytes are bytes: what the claims ask of a list leaves
 -- no request out. Assumes nothing.
 use mathlib.Core.Path.{_≡_, sym, subst}
 use mathlib.Core.Logic.{_⊎_, inl, inr}
@@ -6,7 +6,7 @@ use mathlib.Core.List.{List, [], _∷_, List·Memᴰ, List·Memᴰ·not-nil, Lis
 use Prim.Native.Nat.{ℕ}
 use lib.ListN.{length}
 use Rattle.lists.specs.Bytes.{Bytes, ByteList}
-use Rattle.volume.specs.Request.{Request, Typed, AllTyped, thirteen}
+use Rattle.volume.specs.Request.{Request, Typed, AllTyped, eachRequest}
 use Rattle.ids.specs.declared.InodeNumber.{InodeNumber}
 use Rattle.ids.specs.declared.EntryNumber.{EntryNumber}
 
@@ -20,19 +20,15 @@ one-more r rs t ts q h = go (List·Memᴰ·cases-cons h)
     go (inl e) = subst Typed (sym e) t
     go (inr p) = ts q p
 
-pub thirteen-typed : (i p : InodeNumber) (a b : EntryNumber) (kind number : ℕ) (d x s : Bytes) → length d ≡ 8 → length x ≡ 16 → ByteList d → ByteList x → ByteList s
-    → AllTyped (thirteen i p a b kind number d x s)
-thirteen-typed i p a b kind number d x s ld lx bd bx bs =
-    one-more _ _ (ld, bd, bs)
-    (one-more _ _ (ld, bd)
-    (one-more _ _ (bs, lx, bx)
-    (one-more _ _ tt
-    (one-more _ _ (bs, lx, bx)
-    (one-more _ _ bs
-    (one-more _ _ bs
-    (one-more _ _ tt
-    (one-more _ _ tt
-    (one-more _ _ bs
-    (one-more _ _ bs
-    (one-more _ _ bs
-    (one-more _ _ bs none-typed))))))))))))
+-- the same, request by request, so that it is found by looking at one request after the other
+data Each : List Request → Type 0 where
+  none : Each []
+  next : {r : Request} {rs : List Request} → Typed r → Each rs → Each (r ∷ rs)
+
+all-typed : {rs : List Request} → Each rs → AllTyped rs
+all-typed none = none-typed
+all-typed (next t ts) = one-more _ _ t (all-typed ts)
+
+pub each-typed : (i p : InodeNumber) (a b : EntryNumber) (kind number : ℕ) (d x s : Bytes) → length d ≡ 8 → length x ≡ 16 → ByteList d → ByteList x → ByteList s
+    → AllTyped (eachRequest i p a b kind number d x s)
+each-typed i p a b kind number d x s ld lx bd bx bs = all-typed (search (none, next) depth 30 fits 4000)

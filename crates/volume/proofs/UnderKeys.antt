@@ -1,9 +1,7 @@
 -- What stands under a directory's key is what specs/UnderKeys.antt says: the search of the keyring ends at the slot that holds the descriptor, a sound volume having
 -- it once, and each definition is read with that slot's key. Assumes nothing.
 use Prim.Native.Nat.{ℕ, _-_}
-use native.Mathlib.Omega.{arith}
 use mathlib.Core.Path.{_≡_, refl, sym, _∙_, ap, ap₂, subst}
-use mathlib.Core.Logic.{_≢_}
 use mathlib.Core.Bool.{true, false}
 use mathlib.Core.List.{_++_}
 use lib.ListN.{length, take, drop}
@@ -23,7 +21,7 @@ use Rattle.fscrypt.specs.declared.NameRead.{NameRead}
 use Rattle.fscrypt.proofs.Padding.{nameBytes-packed}
 use Rattle.fscrypt.proofs.PaddingMeanings.{padded-means, readPadded-read}
 use Rattle.volume.specs.Volume.{keySlots, keyBytes, nameOf}
-use Rattle.volume.specs.Request.{show, seal, unseal, refused, done, shown, Outcome, ShownEntry, Form, Plain, Decrypted, Encoded}
+use Rattle.volume.specs.Request.{show, seal, unseal, done, shown, Outcome, ShownEntry, Form, Plain, Decrypted, Encoded}
 use Rattle.volume.specs.Lookup.{keySlotOf, keyOf, descriptorOf, inodeAt, entryAt}
 use Rattle.volume.specs.DirectoryNames.{derivedKey, nameKey, stored, readName, shownName, formIn}
 use Rattle.volume.specs.Step.{check, effect, step}
@@ -36,7 +34,6 @@ use Rattle.volume.specs.declared.Key.{Key}
 use Rattle.volume.specs.declared.Inode.{Inode}
 use Rattle.volume.specs.declared.Volume.{Volume}
 use Rattle.volume.proofs.Kept.{was-fine, was-done}
-use Rattle.volume.proofs.SealedOpens.{not-refused}
 use Rattle.volume.proofs.Meanings.{meanings}
 use Rattle.volume.proofs.DoneWhenTables.{show-when}
 use Rattle.volume.proofs.DoneWhen.{done-when}
@@ -52,9 +49,6 @@ key-of v s d k w =
     ap (keyAt v) apart
 
 -- ---- names and blocks under it
-
-not-done : (m : ℕ) → refused m ≢ done
-not-done m q = let z : _≡_ {A = ℕ} 0 1 = cc in absurd (omega arith)
 
 module _ (C : Cipher) where
   stored-plain : (v : Volume) (dir : Inode) (n : Bytes) → dir .encrypted ≡ false → stored C v dir n ≡ n
@@ -82,13 +76,13 @@ module _ (C : Cipher) where
     sealed : (step C v (seal i number b)) .answer ≡ done → (step C v (seal i number b)) .buffer ≡ C .seal (derivedBy C v k (inodeAt v i)) number b
     unfolding effect
     sealed h =
-        ap (λ (o : Outcome). o .buffer) (was-done C v (seal i number b) done not-done h)
+        ap (λ (o : Outcome). o .buffer) (was-done C v (seal i number b) done refl h)
         ∙ ap (λ (x : Bytes). C .seal x number b) (derived v s (inodeAt v i) k w)
 
     opened : (step C v (unseal i number b)) .answer ≡ done → (step C v (unseal i number b)) .buffer ≡ C .unseal (derivedBy C v k (inodeAt v i)) number b
     unfolding effect
     opened h =
-        ap (λ (o : Outcome). o .buffer) (was-done C v (unseal i number b) done not-done h)
+        ap (λ (o : Outcome). o .buffer) (was-done C v (unseal i number b) done refl h)
         ∙ ap (λ (x : Bytes). C .unseal x number b) (derived v s (inodeAt v i) k w)
 
 -- ---- the name that show answers
@@ -104,7 +98,7 @@ module _ (C : Cipher) (v : Volume) (s : Sound v) (e : EntryNumber) (b : Bytes) (
   shown-in : (f : Form) (n : Bytes) → formIn v dir ≡ f → shownName C v dir e name ≡ n → ShownIn b ((step C v (show e b)) .buffer) a f n
   unfolding effect
   shown-in f n q r =
-      let d = was-done C v (show e b) (shown a) (not-refused a) h in
+      let d = was-done C v (show e b) (shown a) refl h in
       let t = ap (λ (o : Outcome). o .answer) (sym d) ∙ h in
       let m = shownName C v dir e name in
       let len : a .len ≡ length m = cc t in
@@ -136,7 +130,7 @@ module _ (C : Cipher) (v : Volume) (s : Sound v) (e : EntryNumber) (b : Bytes) (
   unfolding shownName readName check
   shown-decrypted f k w size q M =
       let present : KeyPresent v dir = (k, w, size) in
-      let read = show-when C v s e b .0 (was-fine C v (show e b) (shown a) (not-refused a) h) .readable f present q M in
+      let read = show-when C v s e b .0 (was-fine C v (show e b) (shown a) refl h) .readable f present q M in
       let key = names-key C v s dir k w in (
         read .0,
         subst (λ (x : Bytes). ReadAs q (C .decryptName x name) (read .0)) key (read .1),

@@ -12,36 +12,17 @@ use Rattle.policy.specs.Policies.{noContext}
 use Rattle.policy.specs.Meanings.{PolicyIn}
 use Rattle.fscrypt.specs.Cipher.{Cipher}
 use Rattle.volume.specs.Volume.{noKey, noInode, noEntry, keyBytes, nameOf}
-use Rattle.volume.specs.Request.{Request, addKey, removeKey, setPolicy, getPolicy, create, link, rename, exchange, remove, find, show, seal, unseal, Answer, done, created, at, policyIs, shown, ShownEntry}
+use Rattle.volume.specs.Request.{addKey, removeKey, setPolicy, create, link, rename, exchange, remove, done, created, at}
 use Rattle.volume.specs.Lookup.{inodeAt, entryAt}
 use Rattle.volume.specs.DirectoryNames.{stored}
 use Rattle.volume.specs.Step.{step}
 use Rattle.volume.specs.Sound.{keyAt, nodeAt, slotAt, EntryOf, BearsPolicy, Sound}
 use Rattle.volume.specs.Meanings.{Least, KeySlotFree, KeyIn, KeyHeld}
-use Rattle.volume.specs.DoneWhen.{Done}
 use Rattle.ids.specs.declared.InodeNumber.{InodeNumber}
 use Rattle.ids.specs.declared.EntryNumber.{EntryNumber}
 use Rattle.volume.specs.declared.Inode.{Inode}
 use Rattle.volume.specs.declared.Entry.{Entry}
 use Rattle.volume.specs.declared.Volume.{Volume}
-
--- ---- the answers: "Create answers the new thing and place, link the new place, find the place, get policy the 12 bytes; show answers parent, thing, kind, form,
--- length and name .. All others answer done"
-
-abbrev pub Answers : Request → Answer → Type 0
-Answers (addKey d k) a = a ≡ done
-Answers (removeKey d) a = a ≡ done
-Answers (setPolicy i p x) a = a ≡ done
-Answers (getPolicy i) a = (b : Bytes) × (a ≡ policyIs b)
-Answers (create p kind n x) a = (i : InodeNumber) × (e : EntryNumber) × (a ≡ created i e)
-Answers (link i p n) a = (e : EntryNumber) × (a ≡ at e)
-Answers (rename e p n) a = a ≡ done
-Answers (exchange a b) o = o ≡ done
-Answers (remove e) a = a ≡ done
-Answers (find p n) a = (e : EntryNumber) × (a ≡ at e)
-Answers (show e b) a = (s : ShownEntry) × (a ≡ shown s)
-Answers (seal i n b) a = a ≡ done
-Answers (unseal i n b) a = a ≡ done
 
 -- ---- what stays: every key, inode or entry but the one of this number
 
@@ -170,8 +151,6 @@ module _ (C : Cipher) where
   -- ---- the statement
 
   pub record Does : Type 0 where
-    -- each request that is not refused gives an answer of its own form, so that what follows speaks of all of them
-    pub answers : (v : Volume) (r : Request) → Done C v r → Answers r ((step C v r) .answer)
     pub key-added : (v : Volume) → Sound v → (d k : Bytes) → (step C v (addKey d k)) .answer ≡ done → KeyAdded v ((step C v (addKey d k)) .volume) d k
     pub key-removed : (v : Volume) → Sound v → (d : Bytes) → (step C v (removeKey d)) .answer ≡ done → KeyRemoved v ((step C v (removeKey d)) .volume) d
     pub policy-set : (v : Volume) → Sound v → (i : InodeNumber) (p x : Bytes) → (step C v (setPolicy i p x)) .answer ≡ done

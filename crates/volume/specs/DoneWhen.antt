@@ -13,7 +13,7 @@ use Rattle.policy.specs.declared.Policy.{Policy}
 use Rattle.fscrypt.specs.Cipher.{Cipher}
 use Rattle.fscrypt.specs.Meanings.{PlainName, Multiple, ReadAs}
 use Rattle.volume.specs.Volume.{keySlots, inodeSlots, entrySlots, nameOf}
-use Rattle.volume.specs.Request.{Request, addKey, removeKey, setPolicy, getPolicy, create, link, rename, exchange, remove, find, show, seal, unseal, refused, done, created, at, policyIs, shown, ShownEntry}
+use Rattle.volume.specs.Request.{Request, addKey, removeKey, setPolicy, getPolicy, create, link, rename, exchange, remove, find, show, seal, unseal, ShownEntry, Answer, refused, done, created, at, policyIs, shown}
 use Rattle.volume.specs.Lookup.{inodeAt, entryAt}
 use Rattle.volume.specs.DirectoryNames.{nameKey, stored, formIn}
 use Rattle.volume.specs.Step.{step}
@@ -118,6 +118,24 @@ pub record BlockDone (v : Volume) (i : InodeNumber) (block : Bytes) : Type 0 whe
   pub encrypted : (inodeAt v i) .encrypted ≡ true
   pub key : KeyPresent v (inodeAt v i)
 
+-- ---- the answers: "Create answers the new thing and place, link the new place, find the place, get policy the 12 bytes; show answers parent, thing, kind, form,
+-- length and name .. All others answer done"
+
+abbrev pub Answers : Request → Answer → Type 0
+Answers (addKey d k) a = a ≡ done
+Answers (removeKey d) a = a ≡ done
+Answers (setPolicy i p x) a = a ≡ done
+Answers (getPolicy i) a = (b : Bytes) × (a ≡ policyIs b)
+Answers (create p kind n x) a = (i : InodeNumber) × (e : EntryNumber) × (a ≡ created i e)
+Answers (link i p n) a = (e : EntryNumber) × (a ≡ at e)
+Answers (rename e p n) a = a ≡ done
+Answers (exchange a b) o = o ≡ done
+Answers (remove e) a = a ≡ done
+Answers (find p n) a = (e : EntryNumber) × (a ≡ at e)
+Answers (show e b) a = (s : ShownEntry) × (a ≡ shown s)
+Answers (seal i n b) a = a ≡ done
+Answers (unseal i n b) a = a ≡ done
+
 -- ---- the statement
 
 module _ (C : Cipher) where
@@ -142,6 +160,8 @@ module _ (C : Cipher) where
 
   pub record DoneWhen : Type 0 where
     pub exactly : (v : Volume) → Sound v → (r : Request) → Done v r ↔ Occasion v r
+    -- each request that is not refused gives an answer of its own form, so that what is said of its answer speaks of all that were done
+    pub answers : (v : Volume) (r : Request) → Done v r → Answers r ((step C v r) .answer)
     -- get policy answers what set policy was given, and of a child of an encrypted directory what it answers of the directory
     pub policy-set : (v : Volume) (i : InodeNumber) (p x : Bytes) → (step C v (setPolicy i p x)) .answer ≡ done
         → (step C ((step C v (setPolicy i p x)) .volume) (getPolicy i)) .answer ≡ policyIs p

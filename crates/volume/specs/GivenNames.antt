@@ -6,7 +6,7 @@ use mathlib.Core.List.{List, [], _∷_}
 use mathlib.Core.Option.{Option, some, none}
 use lib.Dec.{eqb}
 use Rattle.lists.specs.Bytes.{Bytes}
-use Rattle.volume.specs.Request.{Request, addKey, removeKey, setPolicy, getPolicy, create, link, rename, exchange, remove, find, show, seal, unseal, Answer, refused, done, created, at, policyIs, shown}
+use Rattle.volume.specs.Request.{Request, addKey, removeKey, setPolicy, getPolicy, create, link, rename, exchange, remove, find, show, seal, unseal, Answer, refused, done, created, at, policyIs, shown, refusalIn}
 use Rattle.volume.specs.Run.{Moment}
 use Rattle.ids.specs.declared.EntryNumber.{EntryNumber}
 
@@ -44,14 +44,23 @@ named (answered n) none e = none
 named (answered n) (some e′) e = onlyAt e′ n e
 named (entry e′ n) o e = onlyAt e′ n e
 
+-- the entry that a request answered
+abbrev pub answeredIn : Answer → Option EntryNumber
+answeredIn (refused n) = none
+answeredIn done = none
+answeredIn (created i e) = some e
+answeredIn (at e) = some e
+answeredIn (policyIs p) = none
+answeredIn (shown s) = none
+
+-- a request that was refused names nothing
+abbrev pub unlessRefused : Option ℕ → Option Bytes → Option Bytes
+unlessRefused (some number) n = none
+unlessRefused none n = n
+
 -- the name that a request with this answer gives the entry e, if it gives it one
 unfoldable pub namedBy : Request → Answer → Names
-namedBy r (refused number) e = none
-namedBy r done e = named (naming r) none e
-namedBy r (created i e′) e = named (naming r) (some e′) e
-namedBy r (at e′) e = named (naming r) (some e′) e
-namedBy r (policyIs p) e = named (naming r) none e
-namedBy r (shown s) e = named (naming r) none e
+namedBy r a e = unlessRefused (refusalIn a) (named (naming r) (answeredIn a) e)
 
 abbrev pub later : Option Bytes → Option Bytes → Option Bytes
 later (some n) earlier = some n

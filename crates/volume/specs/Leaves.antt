@@ -7,8 +7,8 @@ use Rattle.lists.specs.Bytes.{Bytes}
 use Rattle.errno.specs.Refusals.{number}
 use Rattle.errno.specs.declared.Errno.{Errno}
 use Rattle.fscrypt.specs.Cipher.{Cipher}
-use Rattle.volume.specs.Request.{Request, addKey, getPolicy, find, show, seal, unseal, refused, shown, outcome, ShownEntry}
-use Rattle.volume.specs.Step.{step}
+use Rattle.volume.specs.Request.{Request, getPolicy, find, show, seal, unseal, refused, shown, outcome, ShownEntry}
+use Rattle.volume.specs.Step.{lent, step}
 use Rattle.ids.specs.declared.InodeNumber.{InodeNumber}
 use Rattle.ids.specs.declared.EntryNumber.{EntryNumber}
 use Rattle.volume.specs.declared.Volume.{Volume}
@@ -21,11 +21,7 @@ pub record Leaves (C : Cipher) : Type 0 where
   -- "each request ends with its answer or with one refusal from the table"
   pub numbered : (v : Volume) (r : Request) (n : ℕ) → Refuses C v r n → (e : Errno) × (n ≡ number e)
   -- "A refused request changes no byte of the shelf, nor of any buffer we lent."
-  pub refused-volume : (v : Volume) (r : Request) (n : ℕ) → Refuses C v r n → (step C v r) .volume ≡ v
-  pub refused-add-key : (v : Volume) (d k : Bytes) (n : ℕ) → Refuses C v (addKey d k) n → step C v (addKey d k) ≡ outcome (refused n) k v
-  pub refused-show : (v : Volume) (e : EntryNumber) (b : Bytes) (n : ℕ) → Refuses C v (show e b) n → step C v (show e b) ≡ outcome (refused n) b v
-  pub refused-seal : (v : Volume) (i : InodeNumber) (k : ℕ) (b : Bytes) (n : ℕ) → Refuses C v (seal i k b) n → step C v (seal i k b) ≡ outcome (refused n) b v
-  pub refused-open : (v : Volume) (i : InodeNumber) (k : ℕ) (b : Bytes) (n : ℕ) → Refuses C v (unseal i k b) n → step C v (unseal i k b) ≡ outcome (refused n) b v
+  pub refused-all : (v : Volume) (r : Request) (n : ℕ) → Refuses C v r n → step C v r ≡ outcome (refused n) (lent r) v
   -- "Show writes the name's bytes at the buffer's start and no others."
   pub past-the-name : (v : Volume) (e : EntryNumber) (b : Bytes) (s : ShownEntry) → (step C v (show e b)) .answer ≡ shown s
       → drop (s .len) ((step C v (show e b)) .buffer) ≡ drop (s .len) b

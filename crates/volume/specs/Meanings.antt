@@ -5,6 +5,7 @@ use Prim.Native.Nat.{ℕ, _≤_, _<_}
 use mathlib.Core.Path.{_≡_}
 use mathlib.Core.Logic.{_≢_, _⊎_, _↔_}
 use mathlib.Core.Bool.{true, false}
+use mathlib.Core.Option.{some}
 use lib.ListN.{replicate}
 use lib.Dec.{ltb, leb}
 use Rattle.lists.specs.Bytes.{Bytes}
@@ -30,7 +31,7 @@ use Rattle.volume.specs.declared.Reply.the-variants.{Done, Refused as No
 use Rattle.volume.specs.declared.CreateAnswer.the-variants.{Created, Refused as NotCreated}
 use Rattle.volume.specs.declared.EntryAnswer.the-variants.{At, Refused as Nowhere}
 use Rattle.volume.specs.declared.ShowAnswer.the-variants.{Shown, Refused as NotShown}
-use Rattle.volume.specs.Request.{refused, done, created, at, policyIs, shown, Plain, Decrypted, Encoded, replied, createAnswered, entryAnswered, policyAnswered, formAnswered, showAnswered}
+use Rattle.volume.specs.Request.{addKey, show, seal, unseal, key-buffer, name-buffer, block-buffer, lends, Plain, Decrypted, Encoded, ShownEntry, Answer, refused, done, created, at, policyIs, shown, refusalIn, shownIn, replied, createAnswered, entryAnswered, policyAnswered, formAnswered, showAnswered}
 
 -- the least number that ..
 pub record Least (P : ℕ → Type 0) (n : ℕ) : Type 0 where
@@ -108,10 +109,20 @@ pub record AnswersStand : Type 0 where
       → showAnswered (Shown s) ≡ shown (record { parent = s .parent; inode = s .inode; kind = s .kind; form = formAnswered (s .form); len = s .len })
   pub show-refused : (e : Errno) → showAnswered (NotShown e) ≡ refused (number e)
 
+-- what a request lends, what an answer refuses with, and which entry it shows
+pub record ViewsMean : Type 0 where
+  pub key-lent : (d k : Bytes) → lends (addKey d k) ≡ key-buffer k
+  pub name-lent : (e : EntryNumber) (b : Bytes) → lends (show e b) ≡ name-buffer b
+  pub block-sealed : (i : InodeNumber) (n : ℕ) (b : Bytes) → lends (seal i n b) ≡ block-buffer b
+  pub block-opened : (i : InodeNumber) (n : ℕ) (b : Bytes) → lends (unseal i n b) ≡ block-buffer b
+  pub refusal : (a : Answer) (n : ℕ) → (refusalIn a ≡ some n) ↔ (a ≡ refused n)
+  pub shown-entry : (a : Answer) (s : ShownEntry) → (shownIn a ≡ some s) ↔ (a ≡ shown s)
+
 -- ---- the tests of numbers and records
 
 pub record PlainMeanings : Type 0 where
   pub answers : AnswersStand
+  pub views : ViewsMean
   pub key-length : (n : ℕ) → (isBadKeyLength n ≡ false) ↔ KeyLength n
   -- "Kinds: 1 folder, 2 regular file, 3 symlink, 4 special"
   pub kind : (k : ℕ) → (isBadKind k ≡ false) ↔ ((1 ≤ k) × (k ≤ 4))

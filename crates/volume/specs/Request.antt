@@ -1,8 +1,10 @@
--- The thirteen requests and their answers, document 01, "What may be asked".
+-- The requests and their answers, document 01, "What may be asked", and the views by which definitions and proofs go: what a request lends, what an answer refuses with
+-- or shows. A further request or answer is a row in each.
 -- Sentences in quotation marks are document 01's, in its words. Assumes nothing.
 use Prim.Native.Nat.{ℕ}
 use mathlib.Core.Path.{_≡_}
 use mathlib.Core.List.{List, [], _∷_, List·Memᴰ}
+use mathlib.Core.Option.{Option, some, none}
 use lib.ListN.{length}
 use Rattle.lists.specs.Bytes.{Bytes, ByteList}
 use Rattle.errno.specs.Refusals.{number}
@@ -59,9 +61,9 @@ Typed (unseal i n b) = ByteList b
 abbrev pub AllTyped : List Request → Type 0
 AllTyped rs = (r : Request) → List·Memᴰ r rs → Typed r
 
--- each of the thirteen requests, with any parts
-abbrev pub thirteen : InodeNumber → InodeNumber → EntryNumber → EntryNumber → ℕ → ℕ → Bytes → Bytes → Bytes → List Request
-thirteen i p a b kind number d x s =
+-- each request, with any parts
+abbrev pub eachRequest : InodeNumber → InodeNumber → EntryNumber → EntryNumber → ℕ → ℕ → Bytes → Bytes → Bytes → List Request
+eachRequest i p a b kind number d x s =
     addKey d s
     ∷ removeKey d
     ∷ setPolicy i s x
@@ -76,6 +78,36 @@ thirteen i p a b kind number d x s =
     ∷ seal i number s
     ∷ unseal i number s
     ∷ []
+
+-- ---- what a request lends
+
+-- the buffer that a request lends for writing, by what it is for; policies and names, lent for reading, stand in the request, and no call can write them
+pub data Lent : Type 0 where
+  no-buffer : Lent
+  key-buffer : (bytes : Bytes) → Lent
+  name-buffer : (bytes : Bytes) → Lent
+  block-buffer : (bytes : Bytes) → Lent
+
+abbrev pub lends : Request → Lent
+lends (addKey d k) = key-buffer k
+lends (removeKey d) = no-buffer
+lends (setPolicy i p x) = no-buffer
+lends (getPolicy i) = no-buffer
+lends (create p kind n x) = no-buffer
+lends (link i p n) = no-buffer
+lends (rename e p n) = no-buffer
+lends (exchange a b) = no-buffer
+lends (remove e) = no-buffer
+lends (find p n) = no-buffer
+lends (show e b) = name-buffer b
+lends (seal i n b) = block-buffer b
+lends (unseal i n b) = block-buffer b
+
+abbrev pub lentBytes : Lent → Bytes
+lentBytes no-buffer = []
+lentBytes (key-buffer b) = b
+lentBytes (name-buffer b) = b
+lentBytes (block-buffer b) = b
 
 -- ---- answers
 
@@ -99,6 +131,24 @@ pub data Answer : Type 0 where
   at : (entry : EntryNumber) → Answer
   policyIs : (bytes : Bytes) → Answer
   shown : (entry : ShownEntry) → Answer
+
+-- the number that a request was refused with, if it was refused
+abbrev pub refusalIn : Answer → Option ℕ
+refusalIn (refused n) = some n
+refusalIn done = none
+refusalIn (created i e) = none
+refusalIn (at e) = none
+refusalIn (policyIs p) = none
+refusalIn (shown s) = none
+
+-- the entry that was shown, if one was
+abbrev pub shownIn : Answer → Option ShownEntry
+shownIn (refused n) = none
+shownIn done = none
+shownIn (created i e) = none
+shownIn (at e) = none
+shownIn (policyIs p) = none
+shownIn (shown s) = some s
 
 -- an answer, and the lent buffer and the volume as they are left
 pub record Outcome : Type 0 where

@@ -11,7 +11,7 @@ use Rattle.errno.specs.declared.Checked.the-variants.{Fine, Refused}
 use Rattle.policy.specs.Policies.{policyBytes, readPolicy}
 use Rattle.fscrypt.specs.Cipher.{Cipher}
 use Rattle.volume.specs.Volume.{noKey, noInode, noEntry, plainInode, encryptedInode, keySlot, entrySlot, nameOf}
-use Rattle.volume.specs.Request.{Request, addKey, removeKey, setPolicy, getPolicy, create, link, rename, exchange, remove, find, show, seal, unseal, refused, done, created, at, policyIs, shown, Outcome, outcome}
+use Rattle.volume.specs.Request.{Request, addKey, removeKey, setPolicy, getPolicy, create, link, rename, exchange, remove, find, show, seal, unseal, lends, lentBytes, refused, done, created, at, policyIs, shown, Outcome, outcome}
 use Rattle.volume.specs.Lookup.{keySlotOf, freeKeySlot, inodeAt, freeInode, entryAt, freeEntry, entryNamed, isHeld}
 use Rattle.volume.specs.DirectoryNames.{derivedKey, stored, shownName, formIn}
 use Rattle.volume.specs.Checks.{isNonceNeeded, addKeyCheck, removeKeyCheck, setPolicyCheck, getPolicyCheck, createCheck, linkCheck, renameCheck, exchangeCheck, removeCheck, findCheck, showCheck, blockCheck}
@@ -44,21 +44,9 @@ childOf dir kind x = cond (isNonceNeeded dir kind) (encryptedInode kind (dir .co
 unfoldable pub withoutUnheld : List Inode → List Entry → InodeNumber → List Inode
 withoutUnheld is es i = cond (isHeld es i) is (set is (i .0) noInode)
 
--- the buffer that a request lends, as far as it is followed here; policies and names, lent for reading, stand in the request, and no call can write them
+-- the bytes of the buffer that a request lends
 unfoldable pub lent : Request → Bytes
-lent (addKey d k) = k
-lent (removeKey d) = []
-lent (setPolicy i p x) = []
-lent (getPolicy i) = []
-lent (create p kind n x) = []
-lent (link i p n) = []
-lent (rename e p n) = []
-lent (exchange a b) = []
-lent (remove e) = []
-lent (find p n) = []
-lent (show e b) = b
-lent (seal i n b) = b
-lent (unseal i n b) = b
+lent r = lentBytes (lends r)
 
 module _ (C : Cipher) where
   unfoldable pub check : Volume → Request → Checked

@@ -4,15 +4,15 @@ use Prim.Native.Nat.{ℕ}
 use mathlib.Core.Path.{_≡_}
 use mathlib.Core.Logic.{_≢_}
 use mathlib.Core.Bool.{cond}
-use mathlib.Core.List.{List, _∷_, _++_, map, List·Memᴰ}
-use mathlib.Core.Option.{some}
+use mathlib.Core.List.{List, [], _∷_, _++_, map, List·Memᴰ}
+use mathlib.Core.Option.{Option, some, none}
 use lib.ListN.{length, take, drop}
 use lib.Dec.{leb}
 use Rattle.lists.specs.Bytes.{Bytes, zeros}
 use Rattle.errno.specs.Refusals.{number}
 use Rattle.errno.specs.declared.Errno.the-variants.{EUCLEAN}
 use Rattle.fscrypt.specs.Cipher.{Cipher}
-use Rattle.volume.specs.Request.{Request, AllTyped, addKey, removeKey, setPolicy, getPolicy, create, link, rename, exchange, remove, find, show, seal, unseal, Answer, refused, done, created, at, policyIs, shown, ShownEntry, Form, Plain, Decrypted, Encoded}
+use Rattle.volume.specs.Request.{Request, AllTyped, addKey, show, Lent, no-buffer, key-buffer, name-buffer, block-buffer, lends, Form, Plain, Decrypted, Encoded, ShownEntry, Answer, refused, shown, refusalIn, shownIn, Outcome, outcome}
 use Rattle.volume.specs.Lookup.{inodeAt}
 use Rattle.volume.specs.Run.{Moment, run}
 use Rattle.volume.specs.GivenNames.{given}
@@ -23,25 +23,11 @@ use Rattle.volume.specs.declared.Volume.{Volume}
 
 -- ---- the two lists
 
--- the request with zeros for the bytes of its key
-unfoldable pub blankRequest : Request → Request
-blankRequest (addKey d k) = addKey d (zeros (length k))
-blankRequest (removeKey d) = removeKey d
-blankRequest (setPolicy i p x) = setPolicy i p x
-blankRequest (getPolicy i) = getPolicy i
-blankRequest (create p kind n x) = create p kind n x
-blankRequest (link i p n) = link i p n
-blankRequest (rename e p n) = rename e p n
-blankRequest (exchange a b) = exchange a b
-blankRequest (remove e) = remove e
-blankRequest (find p n) = find p n
-blankRequest (show e b) = show e b
-blankRequest (seal i n b) = seal i n b
-blankRequest (unseal i n b) = unseal i n b
-
 -- "the two lists agree in all of it but the bytes, not the length, of the key in each add key request"
-abbrev pub SameButKeys : List Request → List Request → Type 0
-SameButKeys rs₁ rs₂ = map blankRequest rs₁ ≡ map blankRequest rs₂
+pub data SameButKeys : List Request → List Request → Type 0 where
+  no-more : SameButKeys [] []
+  same-request : (r : Request) {rs₁ rs₂ : List Request} → SameButKeys rs₁ rs₂ → SameButKeys (r ∷ rs₁) (r ∷ rs₂)
+  other-key : (d k₁ k₂ : Bytes) → length k₁ ≡ length k₂ → {rs₁ rs₂ : List Request} → SameButKeys rs₁ rs₂ → SameButKeys (addKey d k₁ ∷ rs₁) (addKey d k₂ ∷ rs₂)
 
 -- "Within one list, all add key requests with the same descriptor carry the same key, refused ones too."
 abbrev pub OneKeyEach : List Request → Type 0
@@ -80,48 +66,25 @@ blankShown Plain n b = b
 blankShown Decrypted n b = b
 blankShown Encoded n b = blankLetters n b
 
-unfoldable pub blankName : Answer → Bytes → Bytes
-blankName (refused n) b = b
-blankName done b = b
-blankName (created i e) b = b
-blankName (at e) b = b
-blankName (policyIs p) b = b
-blankName (shown s) b = blankShown (s .form) (s .len) b
+unfoldable pub blankName : Option ShownEntry → Bytes → Bytes
+blankName (some s) b = blankShown (s .form) (s .len) b
+blankName none b = b
 
 -- a block that was refused stays
-unfoldable pub blankBlock : Answer → Bytes → Bytes
-blankBlock (refused n) b = b
-blankBlock done b = zeros (length b)
-blankBlock (created i e) b = b
-blankBlock (at e) b = b
-blankBlock (policyIs p) b = b
-blankBlock (shown s) b = b
+unfoldable pub blankBlock : Option ℕ → Bytes → Bytes
+blankBlock (some refusal) b = b
+blankBlock none b = zeros (length b)
 
 -- "Buffers: all bytes agree but those letters, the block of a seal or open that was done, and the key bytes lent to an add key."
-unfoldable pub blankBuffer : Request → Answer → Bytes → Bytes
-blankBuffer (addKey d k) a b = zeros (length b)
-blankBuffer (removeKey d) a b = b
-blankBuffer (setPolicy i p x) a b = b
-blankBuffer (getPolicy i) a b = b
-blankBuffer (create p kind n x) a b = b
-blankBuffer (link i p n) a b = b
-blankBuffer (rename e p n) a b = b
-blankBuffer (exchange c d) a b = b
-blankBuffer (remove e) a b = b
-blankBuffer (find p n) a b = b
-blankBuffer (show e lent) a b = blankName a b
-blankBuffer (seal i n lent) a b = blankBlock a b
-blankBuffer (unseal i n lent) a b = blankBlock a b
+unfoldable pub blankBuffer : Lent → Answer → Bytes → Bytes
+blankBuffer no-buffer a b = b
+blankBuffer (key-buffer k) a b = zeros (length b)
+blankBuffer (name-buffer n) a b = blankName (shownIn a) b
+blankBuffer (block-buffer x) a b = blankBlock (refusalIn a) b
 
 -- "Answers: both runs give the same refusal number, or both succeed with the same answer": an answer stays whole, for show's name is in the lent buffer
-unfoldable pub blank : Moment → Moment
-blank m =
-    record {
-      request = blankRequest (m .request);
-      answer = m .answer;
-      buffer = blankBuffer (m .request) (m .answer) (m .buffer);
-      volume = blankVolume (m .volume);
-    }
+unfoldable pub blank : Moment → Outcome
+blank m = outcome (m .answer) (blankBuffer (lends (m .request)) (m .answer) (m .buffer)) (blankVolume (m .volume))
 
 -- ---- given names
 

@@ -1,7 +1,7 @@
 -- `every_request_is_typed`: an array has the length of its type, and its elements and those of a slice are bytes. Assumes nothing.
 use mathlib.Core.Path.{_≡_}
 use lib.ListN.{length}
-use Rattle.volume.proofs.Typing.{thirteen-typed}
+use Rattle.volume.proofs.Typing.{each-typed}
 use borrow.Author.Needs.{needs}
 use Rattle.requests.proofs.claims.every_request_is_typed.Statement.{statement}
 use Rattle.requests.proofs.claims.every_request_is_typed.Tie as tie
@@ -11,7 +11,7 @@ returns c =
     let s = c .before .before .before .before .before .before in
     let ld : length (s .args .t7) ≡ 8 = search needs in
     let lx : length (s .args .t8) ≡ 16 = search needs in
-    thirteen-typed _ _ _ _ _ _ _ _ _ ld lx (c .before .before .before .are-bytes .ensures) (c .before .are-bytes2 .ensures) (c .are-bytes3 .ensures)
+    each-typed _ _ _ _ _ _ _ _ _ ld lx (c .before .before .before .are-bytes .ensures) (c .before .are-bytes2 .ensures) (c .are-bytes3 .ensures)
 
 pub every-request-is-typed-spec : {M : Type 1} → statement M
 every-request-is-typed-spec =
