@@ -13,8 +13,8 @@ use Rattle.lists.proofs.Tests.{and-left, and-right, eqb-true, eqb-other}
 use Rattle.lists.proofs.Slots.{by-eq, by-test, firstAt-found}
 use Rattle.lists.proofs.Searches.{equal, both}
 use Rattle.volume.specs.Volume.{inodeSlots, noEntry, rootNumber}
-use Rattle.volume.specs.Lookup.{inodeAt, isDirectory, isVacant, isLink, firstLink, parentOf, climbFrom, isMoved, isUnderItself}
-use Rattle.volume.specs.Sound.{Sound, Used, slotAt, Below, inside, deeper}
+use Rattle.volume.specs.Lookup.{inodeAt, isDirectory, isVacant, isLink, firstLink, parentOf, climbFrom, isMoved, isUnderItself, Used, slotAt}
+use Rattle.volume.specs.Sound.{Sound, Below, inside, deeper}
 use Rattle.ids.specs.declared.InodeNumber.{InodeNumber}
 use Rattle.volume.specs.declared.Volume.{Volume}
 use Rattle.volume.specs.declared.Met.{Met}

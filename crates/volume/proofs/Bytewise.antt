@@ -16,12 +16,11 @@ use Rattle.fscrypt.specs.Names.{encrypted}
 use Rattle.fscrypt.proofs.Padding.{padded-bytes}
 use Rattle.volume.specs.Volume.{keySlots, inodeSlots, entrySlots, noKey, noInode, noEntry, keySlot, entrySlot, fresh}
 use Rattle.volume.specs.Request.{Request, Typed, AllTyped}
-use Rattle.volume.specs.Lookup.{keySlotOf, keyOf, masterKey, descriptorOf, inodeAt, freeKeySlot, freeInode, entryAt, freeEntry, isHeld}
+use Rattle.volume.specs.Lookup.{keySlotOf, keyOf, masterKey, descriptorOf, inodeAt, freeKeySlot, freeInode, entryAt, freeEntry, isHeld, nodeAt}
 use Rattle.volume.specs.DirectoryNames.{derivedKey, nameKey, stored}
 use Rattle.volume.specs.Checks.{isNonceNeeded}
 use Rattle.volume.specs.Step.{withInode, childOf, withoutUnheld, effect, step}
 use Rattle.volume.specs.Run.{Moment, run}
-use Rattle.volume.specs.Sound.{nodeAt}
 use Rattle.volume.specs.Bytewise.{Bytewise}
 use Rattle.ids.specs.declared.InodeNumber.{InodeNumber}
 use Rattle.volume.specs.declared.Key.{Key}

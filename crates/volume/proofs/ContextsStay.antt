@@ -14,10 +14,10 @@ use Rattle.policy.specs.Policies.{readPolicy}
 use Rattle.fscrypt.specs.Cipher.{Cipher, Lawful}
 use Rattle.volume.specs.Volume.{noInode, noEntry, encryptedInode}
 use Rattle.volume.specs.Request.{Request, AllTyped}
-use Rattle.volume.specs.Lookup.{inodeAt, isFree, entryAt, isHeld}
+use Rattle.volume.specs.Lookup.{inodeAt, isFree, entryAt, isHeld, nodeAt}
 use Rattle.volume.specs.Step.{childOf, withoutUnheld, withInodes, effect, step}
 use Rattle.volume.specs.Run.{Moment, runFrom}
-use Rattle.volume.specs.Sound.{Sound, nodeAt}
+use Rattle.volume.specs.Sound.{Sound}
 use Rattle.volume.specs.SealedOpens.{Stays}
 use Rattle.ids.specs.declared.InodeNumber.{InodeNumber}
 use Rattle.volume.specs.declared.Inode.{Inode}

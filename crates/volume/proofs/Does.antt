@@ -21,11 +21,11 @@ use Rattle.policy.specs.Meanings.{PolicyIn}
 use Rattle.fscrypt.specs.Cipher.{Cipher}
 use Rattle.volume.specs.Volume.{keySlots, inodeSlots, entrySlots, noKey, noInode, noEntry, encryptedInode, keySlot, entrySlot, keyBytes, nameOf}
 use Rattle.volume.specs.Request.{Request, addKey, removeKey, setPolicy, create, link, rename, exchange, remove, Answer, done, created, at, refusalIn, Outcome}
-use Rattle.volume.specs.Lookup.{keySlotOf, freeKeySlot, inodeAt, freeInode, entryAt, freeEntry, isLink, firstLink, isHeld}
+use Rattle.volume.specs.Lookup.{keySlotOf, freeKeySlot, inodeAt, freeInode, entryAt, freeEntry, isLink, firstLink, isHeld, keyAt, slotAt}
 use Rattle.volume.specs.DirectoryNames.{stored}
 use Rattle.volume.specs.Checks.{isBadKeyLength, isNonceNeeded}
 use Rattle.volume.specs.Step.{withKeys, withInodes, withEntries, childOf, withInode, withoutUnheld, check, effect, step}
-use Rattle.volume.specs.Sound.{keyAt, slotAt, EntryOf, Sound}
+use Rattle.volume.specs.Sound.{EntryOf, Sound}
 use Rattle.volume.specs.Meanings.{KeyIn}
 use Rattle.volume.specs.Does.{OtherEntriesStay, KeyAdded, KeyRemoved, PolicySet, WithoutContext, Inherits, Created, Linked, Joins, Holds, Exchanged, Removed, Renamed, Does}
 use Rattle.ids.specs.declared.InodeNumber.{InodeNumber}

@@ -18,11 +18,11 @@ use Rattle.policy.proofs.Meanings.{same-policy}
 use Rattle.fscrypt.specs.Cipher.{Cipher}
 use Rattle.volume.specs.Volume.{noInode, encryptedInode}
 use Rattle.volume.specs.Request.{Request, addKey, removeKey, setPolicy, getPolicy, create, link, rename, exchange, remove, find, show, seal, unseal, Answer, refused, done, created, at, policyIs, shown, Outcome, ShownEntry}
-use Rattle.volume.specs.Lookup.{inodeAt, freeInode, entryAt, freeEntry, entryNamed}
+use Rattle.volume.specs.Lookup.{inodeAt, freeInode, entryAt, freeEntry, entryNamed, dirOf, nodeOf}
 use Rattle.volume.specs.DirectoryNames.{stored, formIn}
 use Rattle.volume.specs.Checks.{getPolicyCheck}
 use Rattle.volume.specs.Step.{withInodes, childOf, check, effect, step}
-use Rattle.volume.specs.Sound.{dirOf, nodeOf, Sound}
+use Rattle.volume.specs.Sound.{Sound}
 use Rattle.volume.specs.Meanings.{Least, InodeFree, EntryFree, EntryNamed, Meanings}
 use Rattle.volume.specs.DoneWhen.{Answers, Occasion, Done, DoneWhen}
 use Rattle.ids.specs.declared.InodeNumber.{InodeNumber}

@@ -17,10 +17,10 @@ use Rattle.fscrypt.specs.Meanings.{PlainName, Multiple, ReadAs}
 use Rattle.fscrypt.proofs.NameMeanings.{nameCheck-fine}
 use Rattle.fscrypt.proofs.PaddingMeanings.{multiple-row, paddingCheck-fine}
 use Rattle.volume.specs.Volume.{keySlots, inodeSlots, entrySlots}
-use Rattle.volume.specs.Lookup.{keySlotOf, freeKeySlot, lacksKey, inodeAt, freeInode, isBorne, entryAt, freeEntry, entryNamed, isTaken, hasEntries, isUnderItself}
+use Rattle.volume.specs.Lookup.{keySlotOf, freeKeySlot, lacksKey, inodeAt, freeInode, isBorne, entryAt, freeEntry, entryNamed, isTaken, hasEntries, isUnderItself, dirOf}
 use Rattle.volume.specs.DirectoryNames.{nameKey, readName, isUnreadable}
 use Rattle.volume.specs.Checks.{directoryCheck, isBadKind, isBadKeyLength, isNonceNeeded, nonceCheck, addKeyCheck, removeKeyCheck, setPolicyCheck, getPolicyCheck, createCheck, linkCheck, renameCheck, exchangeCheck, removeCheck, findCheck, showCheck, blockCheck}
-use Rattle.volume.specs.Sound.{dirOf, Sound, KeyLength, EntryIn}
+use Rattle.volume.specs.Sound.{Sound, KeyLength, EntryIn}
 use Rattle.volume.specs.Meanings.{KeySlotFree, KeyHeld, KeyPresent, LacksKey, InodeFree, NonceBorne, EntryFree, NameTaken, Meanings}
 use Rattle.volume.specs.DoneWhen.{AddKeyDone, SetPolicyDone, NotUnder, CreateDone, LinkDone, RenameDone, ExchangeDone, FindDone, ShowDone, RemoveDone, BlockDone}
 use Rattle.ids.specs.declared.InodeNumber.{InodeNumber}

@@ -21,12 +21,12 @@ use Rattle.fscrypt.specs.Names.{nameCheck, encrypted}
 use Rattle.fscrypt.proofs.Lawfulness.{fscrypt-lawful}
 use Rattle.volume.specs.Volume.{nameOf, fresh}
 use Rattle.volume.specs.Request.{Request, show, refused, shown, outcome, Typed, AllTyped, ShownEntry}
-use Rattle.volume.specs.Lookup.{keySlotOf, keyOf, masterKey, descriptorOf, keyPresent, lacksKey, entryAt, isVacant}
+use Rattle.volume.specs.Lookup.{keySlotOf, keyOf, masterKey, descriptorOf, keyPresent, lacksKey, entryAt, isVacant, Used, slotAt, dirOf}
 use Rattle.volume.specs.DirectoryNames.{derivedKey, nameKey, stored, isUnreadable}
 use Rattle.volume.specs.Checks.{showCheck}
 use Rattle.volume.specs.Step.{lent, check, effect, settle, step}
 use Rattle.volume.specs.Run.{Moment, momentOf, runFrom, run}
-use Rattle.volume.specs.Sound.{Sound, Used, slotAt, dirOf}
+use Rattle.volume.specs.Sound.{Sound}
 use Rattle.volume.specs.Bytewise.{Bytewise}
 use Rattle.volume.specs.SealedOpens.{ShowsAs}
 use Rattle.volume.specs.GivenNames.{Names, later, after, namesFrom, given}
@@ -38,7 +38,7 @@ use Rattle.volume.proofs.Passed.{key-present, show-passed}
 use Rattle.volume.proofs.Soundness.{fresh-sound, fresh-unused, sound-kept}
 use Rattle.volume.proofs.Bytewise.{fresh-bytes, bytewise-kept}
 use Rattle.volume.proofs.Kept.{was-fine}
-use Rattle.volume.proofs.SealedOpens.{readable, shows}
+use Rattle.volume.proofs.StoredNames.{readable, shows}
 use Rattle.volume.proofs.Leaves.{leaves}
 use Rattle.volume.proofs.NamesSince.{Since, stayed, gained, step-since}
 

@@ -30,6 +30,7 @@ mod MeaningsExample
 pub mod PolicyClause
 mod Bytewise
 mod ContextsStay
+mod StoredNames
 pub mod SealedOpens
 pub mod ShownApart
 pub mod Leaves
@@ -47,6 +48,7 @@ mod KeyedExample
 mod Twin
 mod TwinLookup
 mod TwinKeys
+mod TwinAsking
 mod TwinStore
 mod TwinNames
 mod TwinMoves

@@ -18,10 +18,10 @@ use Rattle.errno.specs.declared.Checked.{Checked}
 use Rattle.errno.specs.declared.Checked.the-variants.{Fine, Refused}
 use Rattle.policy.proofs.Meanings.{master-key-size}
 use Rattle.volume.specs.Volume.{keySlots, inodeSlots, entrySlots, noKey, noInode, noEntry, nameOf}
-use Rattle.volume.specs.Lookup.{isFreeKey, onKeyring, keySlotOf, freeKeySlot, keyOf, descriptorOf, keyPresent, lacksKey, inodeAt, isFree, isDirectory, freeInode, bearsNonce, nonceHolder, isBorne, isVacant, freeEntry, isIn, isNamed, entryNamed, isTaken, firstChild, hasEntries, isLink, firstLink, isHeld}
+use Rattle.volume.specs.Lookup.{isFreeKey, onKeyring, keySlotOf, freeKeySlot, keyOf, descriptorOf, keyPresent, lacksKey, inodeAt, isFree, isDirectory, freeInode, bearsNonce, nonceHolder, isBorne, isVacant, freeEntry, isIn, isNamed, entryNamed, isTaken, firstChild, hasEntries, isLink, firstLink, isHeld, keyAt, nodeAt, slotAt}
 use Rattle.volume.specs.DirectoryNames.{formIn}
 use Rattle.volume.specs.Checks.{directoryCheck}
-use Rattle.volume.specs.Sound.{Sound, keyAt, nodeAt, slotAt, EntryIn, EntryOf}
+use Rattle.volume.specs.Sound.{Sound, EntryIn, EntryOf}
 use Rattle.volume.specs.Meanings.{Least, KeySlotFree, KeyIn, KeyHeld, KeyPresent, LacksKey, InodeFree, Bears, NonceBorne, EntryFree, EntryNamed, NameTaken, Meanings}
 use Rattle.ids.specs.declared.InodeNumber.{InodeNumber}
 use Rattle.volume.specs.declared.Key.{Key}

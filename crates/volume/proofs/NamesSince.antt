@@ -16,11 +16,11 @@ use Rattle.fscrypt.specs.Cipher.{Cipher, Lawful}
 use Rattle.fscrypt.specs.Names.{nameCheck}
 use Rattle.volume.specs.Volume.{noInode, noEntry, nameOf, entrySlot}
 use Rattle.volume.specs.Request.{Request, setPolicy, create, link, rename, exchange, remove, Outcome, Typed}
-use Rattle.volume.specs.Lookup.{lacksKey, inodeAt, freeInode, entryAt, isVacant, freeEntry, isHeld}
+use Rattle.volume.specs.Lookup.{lacksKey, inodeAt, freeInode, entryAt, isVacant, freeEntry, isHeld, Used, nodeAt, slotAt, dirOf}
 use Rattle.volume.specs.DirectoryNames.{stored}
 use Rattle.volume.specs.Checks.{setPolicyCheck, createCheck, linkCheck, renameCheck, exchangeCheck, removeCheck}
 use Rattle.volume.specs.Step.{childOf, withoutUnheld, check, effect, step}
-use Rattle.volume.specs.Sound.{Sound, Used, nodeAt, slotAt, dirOf}
+use Rattle.volume.specs.Sound.{Sound}
 use Rattle.volume.specs.GivenNames.{nothing, naming, onlyAt, named, namedBy}
 use Rattle.ids.specs.declared.InodeNumber.{InodeNumber}
 use Rattle.ids.specs.declared.EntryNumber.{EntryNumber}
@@ -37,7 +37,7 @@ use Rattle.volume.proofs.SoundCreate.{free-kept}
 use Rattle.volume.proofs.SoundExchange.{look}
 use Rattle.volume.proofs.SoundRemove.{left-other, left-same}
 use Rattle.volume.proofs.Soundness.{sound-inv}
-use Rattle.volume.proofs.SealedOpens.{stored-same, held-same}
+use Rattle.volume.proofs.StoredNames.{stored-same, held-same}
 
 -- of an entry e in use on w, the volume that a request left of v, which gave e the name o if any
 pub data Since (C : Cipher) (v w : Volume) (o : Option Bytes) (e : ℕ) : Type 0 where
@@ -68,8 +68,8 @@ module _ (C : Cipher) (law : Lawful C) (v : Volume) (s : Sound v) where
         (λ q.
         subst (λ (m : ℕ). Since C v w (onlyAt (record { 0 = e }) n m) m) (sym q)
         (gained n (if-true _ _ (eqb-self e)) good bytes
-        (ap nameOf here ∙ slot-name p i (stored C v (inodeAt v p) n) ∙ sym (stored-same C law v is es (inodeAt v p) n) ∙ ap (λ (d : Inode). stored C w d n) (sym dir))
-        (ap (lacksKey w) dir ∙ held-same C law v is es (inodeAt v p) ∙ held)))
+        (ap nameOf here ∙ slot-name p i (stored C v (inodeAt v p) n) ∙ sym (stored-same C v is es (inodeAt v p) n) ∙ ap (λ (d : Inode). stored C w d n) (sym dir))
+        (ap (lacksKey w) dir ∙ held-same C v is es (inodeAt v p) ∙ held)))
         (λ ne.
         let same : slotAt w j ≡ slotAt v j = getD-set-other (v .entries) e j new noEntry ne in
         let used : Used v j = ap isVacant (sym same) ∙ u in

@@ -19,10 +19,9 @@ use Rattle.fscrypt.specs.Cipher.{Cipher, Lawful}
 use Rattle.lists.proofs.ByteStrings.{length-zeros}
 use Rattle.volume.specs.Volume.{keySlots, inodeSlots, entrySlots, noKey, noInode, plainInode, noEntry, nameOf, fresh}
 use Rattle.volume.specs.Request.{Request, addKey, removeKey, setPolicy, getPolicy, create, link, rename, exchange, remove, find, show, seal, unseal, lends, Form, Plain, Decrypted, Encoded, Answer, refused, Outcome, Typed, AllTyped}
-use Rattle.volume.specs.Lookup.{isFreeKey, inodeAt, isVacant}
+use Rattle.volume.specs.Lookup.{isFreeKey, inodeAt, isVacant, slotAt}
 use Rattle.volume.specs.Step.{lent, settle, step}
 use Rattle.volume.specs.Run.{Moment, momentOf, runFrom, run}
-use Rattle.volume.specs.Sound.{slotAt}
 use Rattle.volume.specs.GivenNames.{Names, namedBy, after, namesFrom, given}
 use Rattle.volume.specs.TwoRuns.{SameButKeys, no-more, same-request, other-key, OneKeyEach, blankKey, blankEntry, blankVolume, blankBuffer, blank, NamesAsGiven, TwoRuns}
 use Rattle.volume.specs.declared.Key.{Key}
@@ -32,7 +31,8 @@ use Rattle.volume.specs.declared.Volume.{Volume}
 use Rattle.volume.proofs.Touching.{Touches, asks, adds-key, removes-key, sets-policy, creates, links, renames, exchanges, removes, touches}
 use Rattle.volume.proofs.Twin.{identity, Setting, Alike, both-refuse, both-fine, keyFor, encName, encKey, encEntry, enc, KeyOk, InodeOk, EntryOk, Inv, Fits, ShownForm, ShownRight, StepTwin, Same}
 use Rattle.volume.proofs.TwinLookup.{enc-length}
-use Rattle.volume.proofs.TwinKeys.{addKey-twin, removeKey-twin, getPolicy-twin, find-twin, seal-twin, unseal-twin}
+use Rattle.volume.proofs.TwinKeys.{addKey-twin, removeKey-twin}
+use Rattle.volume.proofs.TwinAsking.{getPolicy-twin, find-twin, seal-twin, unseal-twin}
 use Rattle.volume.proofs.TwinNames.{setPolicy-twin, create-twin, link-twin, rename-twin}
 use Rattle.volume.proofs.TwinMoves.{exchange-twin, remove-twin}
 use Rattle.volume.proofs.TwinShow.{show-twin}

@@ -4,32 +4,28 @@ use Prim.Native.Nat.{ℕ}
 use native.Mathlib.Omega.{arith}
 use mathlib.Core.Path.{_≡_, refl, sym, _∙_, ap, ap₂, subst}
 use mathlib.Core.Logic.{_≢_}
-use mathlib.Core.Bool.{Bool, true, false, cond, not, _&&_, false≢true}
+use mathlib.Core.Bool.{Bool, true, false, cond, not, _&&_}
 use mathlib.Core.List.{List, _++_}
 use lib.ListN.{length, getD, take, drop}
 use lib.Dec.{eqb, ltb}
 use lib.Seq.{getD-set-same, take-append-seam}
-use borrow.Author.Tests.{le-ltb}
 use Rattle.lists.specs.Bytes.{Bytes, ByteList}
-use Rattle.lists.proofs.Tests.{if-true, if-false, eqb-other}
-use Rattle.lists.proofs.Slots.{by-test, by-cond}
+use Rattle.lists.proofs.Tests.{eqb-other}
 use Rattle.errno.specs.Refusals.{_⇒_, _>>_, isFine}
 use Rattle.errno.specs.declared.Errno.the-variants.{ENOENT, ERANGE, EUCLEAN}
-use Rattle.errno.specs.declared.Checked.{Checked}
 use Rattle.errno.specs.declared.Checked.the-variants.{Fine}
 use Rattle.policy.specs.Policies.{isMasterKeySize, nameKeySize}
 use Rattle.fscrypt.specs.Cipher.{Cipher, Lawful}
-use Rattle.fscrypt.specs.Names.{nameCheck, readPadded, nameBytes, packed}
+use Rattle.fscrypt.specs.Names.{nameCheck, readPadded, nameBytes}
 use Rattle.fscrypt.specs.Encoded.{encoded}
 use Rattle.fscrypt.specs.declared.NameRead.{NameRead}
-use Rattle.fscrypt.proofs.Padding.{read-stored, nameBytes-packed}
 use Rattle.volume.specs.Volume.{noInode, noEntry, keyBytes, nameOf, entrySlot}
-use Rattle.volume.specs.Request.{Request, create, link, rename, show, seal, unseal, Answer, done, created, at, shown, Outcome, outcome, Typed, Form, Plain, Decrypted, Encoded}
-use Rattle.volume.specs.Lookup.{keySlotOf, keyOf, keyPresent, lacksKey, inodeAt, freeInode, entryAt, isVacant, freeEntry}
+use Rattle.volume.specs.Request.{Request, create, link, rename, show, seal, unseal, Answer, done, created, at, shown, Outcome, outcome, Typed, Plain, Decrypted, Encoded}
+use Rattle.volume.specs.Lookup.{keyPresent, lacksKey, inodeAt, freeInode, entryAt, isVacant, freeEntry, dirOf}
 use Rattle.volume.specs.DirectoryNames.{derivedKey, nameKey, stored, readName, shownName, isUnreadable, formIn}
 use Rattle.volume.specs.Checks.{blockCheck, showCheck}
-use Rattle.volume.specs.Step.{lent, check, effect, settle, step, childOf}
-use Rattle.volume.specs.Sound.{Sound, dirOf}
+use Rattle.volume.specs.Step.{check, effect, step, childOf}
+use Rattle.volume.specs.Sound.{Sound}
 use Rattle.volume.specs.Bytewise.{Bytewise}
 use Rattle.volume.specs.SealedOpens.{ShowsAs, SameKey, SameName, SealedOpens}
 use Rattle.ids.specs.declared.InodeNumber.{InodeNumber}
@@ -42,12 +38,12 @@ use Rattle.volume.proofs.Kept.{step-has, done-by, was-fine, was-done}
 use Rattle.volume.proofs.SoundCore.{slot-name}
 use Rattle.volume.proofs.SoundClimb.{num}
 use Rattle.volume.proofs.SoundInvariant.{one≢zero, used-range, name-ok}
-use Rattle.volume.proofs.Passed.{key-present, create-passed, link-passed, rename-passed, block-passed}
+use Rattle.volume.proofs.Passed.{create-passed, link-passed, rename-passed, block-passed}
 use Rattle.volume.proofs.SoundCreate.{free-kept}
 use Rattle.volume.proofs.ContextsStay.{context-stays}
-use Rattle.volume.proofs.Bytewise.{derived-bytes, name-key-bytes, bytewise-kept}
+use Rattle.volume.proofs.Bytewise.{derived-bytes, bytewise-kept}
+use Rattle.volume.proofs.StoredNames.{shows, stored-same, held-same}
 
--- what a show answers is no refusal
 -- ---- what is read of a volume by the key of an inode
 
 needed-same : (v w : Volume) (node : Inode) → SameKey v w node → lacksKey w node ≡ lacksKey v node
@@ -112,68 +108,6 @@ module _ (C : Cipher) (law : Lawful C) where
       let d = was-done C v (seal i n b) done refl h in
       ap (λ (o : Outcome). step C (o .volume) (unseal i n ((step C v (seal i n b)) .buffer))) d ∙ later-opens v v bytes i n b hb refl refl h
 
-  -- ---- names: a stored name is shown as it was given
-
-  module _ (v : Volume) (w : Bytewise v) (dir : Inode) (hx : ByteList (dir .context .nonce)) (n : Bytes) (hn : ByteList n) (good : nameCheck n ≡ Fine)
-      (held : lacksKey v dir ≡ false) where
-    abbrev flags : ℕ
-    flags = dir .context .policy .flags
-
-    reads : dir .encrypted ≡ true → readName C v dir (stored C v dir n) ≡ record { checked = Fine; name = packed n }
-    unfolding readName stored
-    reads e =
-        ap (λ (s : Bytes). readPadded flags (C .decryptName (nameKey C v dir) s)) (if-true _ _ e) ∙ read-stored C law (nameKey C v dir) flags n (name-key-bytes C law v w dir hx) hn good
-
-    pub readable : isUnreadable C v dir (stored C v dir n) ≡ false
-    unfolding isUnreadable
-    readable =
-        by-test (dir .encrypted)
-        (λ e. last (dir .encrypted) (keyPresent v dir) (ap (λ (r : NameRead). not (isFine (r .checked))) (reads e)))
-        (λ e. ap (λ (t : Bool). t && (keyPresent v dir && not (isFine ((readName C v dir (stored C v dir n)) .checked)))) e)
-      where
-        last : (a b : Bool) {c : Bool} → c ≡ false → (a && (b && c)) ≡ false
-        last true true e = e
-        last true false e = refl
-        last false b e = refl
-
-    shown-name : (e : EntryNumber) → shownName C v dir e (stored C v dir n) ≡ n
-    unfolding shownName stored
-    shown-name e =
-        by-test (dir .encrypted)
-        (λ t. if-true _ _ t ∙ if-true _ _ (key-present v dir t held) ∙ ap (λ (r : NameRead). nameBytes (r .name)) (reads t) ∙ nameBytes-packed n)
-        (λ t. if-false _ _ t ∙ if-false _ _ t)
-
-    abbrev isEncoded : Form → Bool
-    isEncoded Plain = false
-    isEncoded Decrypted = false
-    isEncoded Encoded = true
-
-    not-encoded : formIn v dir ≢ Encoded
-    unfolding formIn
-    not-encoded q = false≢true (sym shape ∙ ap isEncoded q)
-      where
-        shape : isEncoded (cond (dir .encrypted) (cond (keyPresent v dir) Decrypted Encoded) Plain) ≡ false
-        shape =
-            by-cond (λ (f : Form). isEncoded f ≡ false) (dir .encrypted) _ _
-            (λ t. ap (λ (b : Bool). isEncoded (cond b Decrypted Encoded)) (key-present v dir t held)) (λ t. refl)
-
-    pub shows : (e : EntryNumber) → isVacant (entryAt v e) ≡ false → inodeAt v (entryAt v e .parent) ≡ dir → nameOf (entryAt v e) ≡ stored C v dir n → ShowsAs C v e n
-    unfolding step lent check effect showCheck _>>_ _⇒_ settle
-    shows e used there name b room =
-        let x = entryAt v e in
-        let o = effect C v (show e b) in
-        let unreadable : isUnreadable C v (inodeAt v (x .parent)) (nameOf x) ≡ false =
-        ap (λ (d : Inode). isUnreadable C v d (nameOf x)) there ∙ ap (isUnreadable C v dir) name ∙ readable in
-        let is-name : shownName C v (inodeAt v (x .parent)) e (nameOf x) ≡ n =
-        ap (λ (d : Inode). shownName C v d e (nameOf x)) there ∙ ap (shownName C v dir e) name ∙ shown-name e in
-        let fine : showCheck C v e (length b) ≡ Fine = rw (le-ltb (length b) 255 room, used, unreadable) in (
-          _,
-          ap (λ (k : Checked). (settle v b k o) .answer) fine,
-          λ q. not-encoded (ap (formIn v) (sym there) ∙ q),
-          ap (λ (k : Checked). take (length (shownName C v (inodeAt v (x .parent)) e (nameOf x))) ((settle v b k o) .buffer)) fine
-              ∙ take-append-seam (shownName C v (inodeAt v (x .parent)) e (nameOf x)) _ ∙ is-name,
-        )
-
   -- ---- names: an entry that a request stored
 
   module _ (v : Volume) (is : List Inode) (es : List Entry) where
@@ -181,24 +115,16 @@ module _ (C : Cipher) (law : Lawful C) where
     abbrev after : Volume
     after = record { keys = v .keys; inodes = is; entries = es }
 
-    pub stored-same : (dir : Inode) (n : Bytes) → stored C after dir n ≡ stored C v dir n
-    unfolding stored nameKey derivedKey keyOf keySlotOf
-    stored-same dir n = refl
-
-    pub held-same : (dir : Inode) → lacksKey after dir ≡ lacksKey v dir
-    unfolding lacksKey keyPresent keyOf keySlotOf
-    held-same dir = refl
-
     shows-new : Bytewise after → (e : EntryNumber) (p i : InodeNumber) (n : Bytes) → ByteList n → nameCheck n ≡ Fine → lacksKey v (inodeAt v p) ≡ false
         → getD is (p .0) noInode ≡ inodeAt v p → getD es (e .0) noEntry ≡ entrySlot p i (stored C v (inodeAt v p) n) → ShowsAs C after e n
     shows-new w e p i n hn good held dir slot =
         let s = stored C v (inodeAt v p) n in
         let ok = name-ok C law v (inodeAt v p) n good in
         let nz : isVacant (entrySlot p i s) ≡ false = eqb-other (length s) 0 (λ z. absurd (omega (arith, ok .some, z))) in
-        shows after w (inodeAt v p) (subst (λ (d : Inode). ByteList (d .context .nonce)) dir (w .nonces (p .0))) n hn good (held-same (inodeAt v p) ∙ held) e
+        shows C law after w (inodeAt v p) (subst (λ (d : Inode). ByteList (d .context .nonce)) dir (w .nonces (p .0))) n hn good (held-same C v is es (inodeAt v p) ∙ held) e
         (ap isVacant slot ∙ nz)
         (ap (λ (x : Entry). getD is (x .parent .0) noInode) slot ∙ dir)
-        (ap nameOf slot ∙ slot-name p i s ∙ sym (stored-same (inodeAt v p) n))
+        (ap nameOf slot ∙ slot-name p i s ∙ sym (stored-same C v is es (inodeAt v p) n))
 
   -- what is claimed of a request that answered a, where it stored the name n in the entry e
   abbrev Showing : EntryNumber → Bytes → Answer → Outcome → Type 0

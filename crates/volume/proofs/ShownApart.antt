@@ -18,11 +18,11 @@ use Rattle.fscrypt.proofs.Shown.{encoded-length-low, encoded-length-high, encod
 use Rattle.fscrypt.proofs.Distinct.{encoded-apart}
 use Rattle.volume.specs.Volume.{nameOf}
 use Rattle.volume.specs.Request.{Request, show, shown, Outcome, AllTyped, ShownEntry, Plain, Decrypted, Encoded}
-use Rattle.volume.specs.Lookup.{keyPresent, inodeAt, entryAt}
+use Rattle.volume.specs.Lookup.{keyPresent, inodeAt, entryAt, Used, slotAt}
 use Rattle.volume.specs.DirectoryNames.{readName, shownName, formIn}
 use Rattle.volume.specs.Step.{lent, check, effect, step}
 use Rattle.volume.specs.Run.{Moment, run}
-use Rattle.volume.specs.Sound.{Sound, Used, slotAt}
+use Rattle.volume.specs.Sound.{Sound}
 use Rattle.volume.specs.Bytewise.{Bytewise}
 use Rattle.volume.specs.ShownApart.{ShownKeyless, KeepsPromise}
 use Rattle.ids.specs.declared.InodeNumber.{InodeNumber}

@@ -13,8 +13,8 @@ use Rattle.lists.specs.Bytes.{firstAt}
 use Rattle.lists.proofs.Tests.{and-left, and-right, eqb-true, eqb-self, eqb-other}
 use Rattle.lists.proofs.Slots.{by-eq, by-test, within, firstAt-found, pigeonhole}
 use Rattle.volume.specs.Volume.{inodeSlots, noInode, noEntry, rootNumber}
-use Rattle.volume.specs.Lookup.{isVacant, isLink, firstLink, parentOf, climbFrom, isMoved}
-use Rattle.volume.specs.Sound.{nodeAt, slotAt, EntryOf, Below, inside, deeper}
+use Rattle.volume.specs.Lookup.{isVacant, isLink, firstLink, parentOf, climbFrom, isMoved, nodeAt, slotAt}
+use Rattle.volume.specs.Sound.{EntryOf, Below, inside, deeper}
 use Rattle.ids.specs.declared.InodeNumber.{InodeNumber}
 use Rattle.volume.specs.declared.Inode.{Inode}
 use Rattle.volume.specs.declared.Entry.{Entry}

@@ -18,10 +18,10 @@ use Rattle.policy.specs.Policies.{isValid, noContext}
 use Rattle.fscrypt.specs.Names.{nameCheck, paddedLength}
 use Rattle.lists.proofs.ByteStrings.{length-zeros}
 use Rattle.volume.specs.Volume.{keySlots, inodeSlots, entrySlots, noKey, noInode, noEntry, plainInode, keyBytes, nameOf, entrySlot}
-use Rattle.volume.specs.Lookup.{isFreeKey, isVacant, isNamed, isTaken, entryNamed, isIn, firstChild, hasEntries}
+use Rattle.volume.specs.Lookup.{isFreeKey, isVacant, isNamed, isTaken, entryNamed, isIn, firstChild, hasEntries, keyAt, nodeAt, slotAt}
 use Rattle.volume.specs.Checks.{isBadKeyLength}
 use Rattle.volume.specs.Step.{withKeys, withInodes, withEntries}
-use Rattle.volume.specs.Sound.{MayHold, keyAt, nodeAt, slotAt}
+use Rattle.volume.specs.Sound.{MayHold}
 use Rattle.ids.specs.declared.InodeNumber.{InodeNumber}
 use Rattle.volume.specs.declared.Key.{Key}
 use Rattle.volume.specs.declared.Inode.{Inode}

@@ -15,11 +15,11 @@ use Rattle.errno.specs.declared.Checked.the-variants.{Fine}
 use Rattle.fscrypt.specs.Cipher.{Cipher, Lawful}
 use Rattle.volume.specs.Volume.{noInode, noEntry, entrySlot}
 use Rattle.volume.specs.Request.{create}
-use Rattle.volume.specs.Lookup.{inodeAt, isFree, freeInode, isVacant, freeEntry, entryNamed}
+use Rattle.volume.specs.Lookup.{inodeAt, isFree, freeInode, isVacant, freeEntry, entryNamed, nodeAt, slotAt}
 use Rattle.volume.specs.DirectoryNames.{stored}
 use Rattle.volume.specs.Checks.{createCheck}
 use Rattle.volume.specs.Step.{withInodes, withEntries, childOf, effect}
-use Rattle.volume.specs.Sound.{MayHold, nodeAt, slotAt}
+use Rattle.volume.specs.Sound.{MayHold}
 use Rattle.ids.specs.declared.InodeNumber.{InodeNumber}
 use Rattle.volume.specs.declared.Inode.{Inode}
 use Rattle.volume.specs.declared.Entry.{Entry}

@@ -14,10 +14,10 @@ use Rattle.errno.specs.declared.Checked.the-variants.{Fine}
 use Rattle.fscrypt.specs.Cipher.{Cipher}
 use Rattle.volume.specs.Volume.{noEntry}
 use Rattle.volume.specs.Request.{exchange}
-use Rattle.volume.specs.Lookup.{isVacant, isUnderItself}
+use Rattle.volume.specs.Lookup.{isVacant, isUnderItself, slotAt, dirOf, nodeOf}
 use Rattle.volume.specs.Checks.{exchangeCheck}
 use Rattle.volume.specs.Step.{withEntries, withInode, effect}
-use Rattle.volume.specs.Sound.{MayHold, slotAt, dirOf, nodeOf}
+use Rattle.volume.specs.Sound.{MayHold}
 use Rattle.ids.specs.declared.EntryNumber.{EntryNumber}
 use Rattle.volume.specs.declared.Entry.{Entry}
 use Rattle.volume.specs.declared.Volume.{Volume}

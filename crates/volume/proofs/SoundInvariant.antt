@@ -18,11 +18,11 @@ use Rattle.fscrypt.specs.Cipher.{Cipher, Lawful}
 use Rattle.fscrypt.specs.Names.{nameCheck, paddedLength, padded, encrypted}
 use Rattle.fscrypt.proofs.Padding.{pad-fits, length-padded, plain-name}
 use Rattle.volume.specs.Volume.{inodeSlots, noInode, noEntry, nameOf, entrySlot}
-use Rattle.volume.specs.Lookup.{inodeAt, isDirectory, bearsNonce, nonceHolder, isBorne, isVacant, isUnderItself}
+use Rattle.volume.specs.Lookup.{inodeAt, isDirectory, bearsNonce, nonceHolder, isBorne, isVacant, isUnderItself, nodeAt, slotAt}
 use Rattle.volume.specs.DirectoryNames.{nameKey, stored}
 use Rattle.volume.specs.Checks.{isNonceNeeded}
 use Rattle.volume.specs.Step.{withInode, childOf}
-use Rattle.volume.specs.Sound.{MayHold, nodeAt, slotAt}
+use Rattle.volume.specs.Sound.{MayHold}
 use Rattle.ids.specs.declared.InodeNumber.{InodeNumber}
 use Rattle.volume.specs.declared.Inode.{Inode}
 use Rattle.volume.specs.declared.Entry.{Entry}

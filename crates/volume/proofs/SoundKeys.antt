@@ -13,10 +13,9 @@ use Rattle.errno.specs.declared.Checked.the-variants.{Fine}
 use Rattle.fscrypt.specs.Cipher.{Cipher}
 use Rattle.volume.specs.Volume.{keySlots, noKey, keySlot}
 use Rattle.volume.specs.Request.{addKey, removeKey}
-use Rattle.volume.specs.Lookup.{onKeyring, keySlotOf, freeKeySlot}
+use Rattle.volume.specs.Lookup.{onKeyring, keySlotOf, freeKeySlot, keyAt}
 use Rattle.volume.specs.Checks.{isBadKeyLength, addKeyCheck}
 use Rattle.volume.specs.Step.{effect}
-use Rattle.volume.specs.Sound.{keyAt}
 use Rattle.volume.specs.declared.Volume.{Volume}
 use Rattle.volume.proofs.SoundCore.{KeyOk, no-key-ok, keys-core}
 use Rattle.volume.proofs.SoundInvariant.{Inv}

@@ -11,11 +11,10 @@ use Rattle.errno.specs.declared.Checked.the-variants.{Fine}
 use Rattle.fscrypt.specs.Cipher.{Cipher, Lawful}
 use Rattle.volume.specs.Volume.{noEntry, entrySlot}
 use Rattle.volume.specs.Request.{link}
-use Rattle.volume.specs.Lookup.{inodeAt, isVacant, freeEntry}
+use Rattle.volume.specs.Lookup.{inodeAt, isVacant, freeEntry, nodeAt, slotAt}
 use Rattle.volume.specs.DirectoryNames.{stored}
 use Rattle.volume.specs.Checks.{linkCheck}
 use Rattle.volume.specs.Step.{effect}
-use Rattle.volume.specs.Sound.{nodeAt, slotAt}
 use Rattle.ids.specs.declared.InodeNumber.{InodeNumber}
 use Rattle.volume.specs.declared.Inode.{Inode}
 use Rattle.volume.specs.declared.Volume.{Volume}

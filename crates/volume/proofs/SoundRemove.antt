@@ -15,10 +15,9 @@ use Rattle.errno.specs.declared.Checked.the-variants.{Fine}
 use Rattle.fscrypt.specs.Cipher.{Cipher}
 use Rattle.volume.specs.Volume.{entrySlots, noInode, noEntry}
 use Rattle.volume.specs.Request.{remove}
-use Rattle.volume.specs.Lookup.{inodeAt, entryAt, isVacant, hasEntries, isLink, firstLink, isHeld}
+use Rattle.volume.specs.Lookup.{inodeAt, entryAt, isVacant, hasEntries, isLink, firstLink, isHeld, nodeAt, slotAt}
 use Rattle.volume.specs.Checks.{removeCheck}
 use Rattle.volume.specs.Step.{withEntries, withoutUnheld, effect}
-use Rattle.volume.specs.Sound.{nodeAt, slotAt}
 use Rattle.ids.specs.declared.InodeNumber.{InodeNumber}
 use Rattle.ids.specs.declared.EntryNumber.{EntryNumber}
 use Rattle.volume.specs.declared.Inode.{Inode}

@@ -12,11 +12,10 @@ use Rattle.errno.specs.declared.Checked.the-variants.{Fine}
 use Rattle.fscrypt.specs.Cipher.{Cipher, Lawful}
 use Rattle.volume.specs.Volume.{noEntry, entrySlot}
 use Rattle.volume.specs.Request.{rename}
-use Rattle.volume.specs.Lookup.{inodeAt, isVacant}
+use Rattle.volume.specs.Lookup.{inodeAt, isVacant, slotAt}
 use Rattle.volume.specs.DirectoryNames.{stored}
 use Rattle.volume.specs.Checks.{renameCheck}
 use Rattle.volume.specs.Step.{withEntries, effect}
-use Rattle.volume.specs.Sound.{slotAt}
 use Rattle.ids.specs.declared.InodeNumber.{InodeNumber}
 use Rattle.ids.specs.declared.EntryNumber.{EntryNumber}
 use Rattle.volume.specs.declared.Entry.{Entry}

@@ -16,10 +16,9 @@ use Rattle.policy.proofs.Codec.{readPolicy-checked, readPolicy-fine, readPolicy
 use Rattle.fscrypt.specs.Cipher.{Cipher}
 use Rattle.volume.specs.Volume.{noInode, encryptedInode}
 use Rattle.volume.specs.Request.{setPolicy}
-use Rattle.volume.specs.Lookup.{inodeAt}
+use Rattle.volume.specs.Lookup.{inodeAt, nodeAt, slotAt}
 use Rattle.volume.specs.Checks.{setPolicyCheck}
 use Rattle.volume.specs.Step.{withInodes, effect}
-use Rattle.volume.specs.Sound.{nodeAt, slotAt}
 use Rattle.ids.specs.declared.InodeNumber.{InodeNumber}
 use Rattle.volume.specs.declared.Inode.{Inode}
 use Rattle.volume.specs.declared.Volume.{Volume}

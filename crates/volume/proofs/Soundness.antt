@@ -17,10 +17,10 @@ use Rattle.fscrypt.specs.Cipher.{Cipher, Lawful}
 use Rattle.fscrypt.proofs.NameMeanings.{nameCheck-fine}
 use Rattle.volume.specs.Volume.{keySlots, inodeSlots, entrySlots, noKey, noInode, noEntry, plainInode, nameOf, fresh}
 use Rattle.volume.specs.Request.{Request, Typed, AllTyped}
-use Rattle.volume.specs.Lookup.{isFreeKey, inodeAt, isVacant, climbFrom}
+use Rattle.volume.specs.Lookup.{isFreeKey, inodeAt, isVacant, climbFrom, Used, keyAt, nodeAt, slotAt, dirOf, nodeOf}
 use Rattle.volume.specs.Step.{check, effect, step}
 use Rattle.volume.specs.Run.{Moment, run}
-use Rattle.volume.specs.Sound.{Sound, Used, BearsPolicy, keyAt, nodeAt, slotAt, dirOf, nodeOf}
+use Rattle.volume.specs.Sound.{Sound, BearsPolicy}
 use Rattle.ids.specs.declared.InodeNumber.{InodeNumber}
 use Rattle.volume.specs.declared.Inode.{Inode}
 use Rattle.volume.specs.declared.Entry.{Entry}

@@ -18,9 +18,8 @@ use Rattle.fscrypt.specs.Cipher.{Cipher, Lawful}
 use Rattle.fscrypt.specs.Names.{nameCheck, padded}
 use Rattle.volume.specs.Volume.{entrySlots, noKey, noInode, nameOf}
 use Rattle.volume.specs.Request.{Request, addKey, show, Lent, no-buffer, key-buffer, name-buffer, block-buffer, lends, Form, Plain, Decrypted, Encoded, ShownEntry, Answer, refusalIn, shownIn, Outcome}
-use Rattle.volume.specs.Lookup.{isFreeKey, descriptorOf, isVacant}
+use Rattle.volume.specs.Lookup.{isFreeKey, descriptorOf, isVacant, slotAt, Used, dirOf}
 use Rattle.volume.specs.Step.{check, effect}
-use Rattle.volume.specs.Sound.{slotAt, Used, dirOf}
 use Rattle.volume.specs.GivenNames.{Names, after}
 use Rattle.volume.specs.TwoRuns.{blankBuffer}
 use Rattle.ids.specs.declared.EntryNumber.{EntryNumber}

@@ -1,5 +1,4 @@
--- The two runs: the requests of the keyring, get policy, find, seal and unseal. Their checks read neither key bytes nor ciphertext but through
--- lookups that TwinLookup has, and what they write is what the identity run writes, encrypted. Assumes nothing.
+-- The two runs: add key and remove key. Their checks read no key bytes, and what they write is what the identity run writes, with the key put back. Assumes nothing.
 use Prim.Native.Nat.{ℕ, _-_}
 use mathlib.Core.Path.{_≡_, refl, sym, _∙_, ap, ap₂}
 use mathlib.Core.Bool.{false, not, _||_, true≢false}
@@ -7,22 +6,21 @@ use mathlib.Core.List.{List, _++_, map}
 use lib.ListN.{length, getD, set, drop}
 use lib.Seq.{drop-append-seam}
 use lib.Dec.{eqb, leb, ltb}
-use Rattle.lists.specs.Bytes.{Bytes, ByteList, zeros}
+use Rattle.lists.specs.Bytes.{Bytes, zeros}
 use Rattle.lists.proofs.Tests.{if-false, eqb-other}
 use Rattle.lists.proofs.Tables.{map-set, all-set}
 use Rattle.lists.proofs.ByteStrings.{length-zeros}
-use Rattle.volume.specs.Volume.{keySlots, entrySlots, noKey, keySlot}
-use Rattle.volume.specs.Request.{addKey, removeKey, getPolicy, find, seal, unseal, at}
-use Rattle.volume.specs.Lookup.{keySlotOf, freeKeySlot, inodeAt}
-use Rattle.volume.specs.Checks.{isBadKeyLength, addKeyCheck, removeKeyCheck, getPolicyCheck, findCheck, blockCheck}
+use Rattle.volume.specs.Volume.{keySlots, noKey, keySlot}
+use Rattle.volume.specs.Request.{addKey, removeKey}
+use Rattle.volume.specs.Lookup.{keySlotOf, freeKeySlot}
+use Rattle.volume.specs.Checks.{isBadKeyLength, addKeyCheck, removeKeyCheck}
 use Rattle.volume.specs.Step.{withKeys, check, effect}
 use Rattle.volume.specs.GivenNames.{Names, namedBy, naming, named}
-use Rattle.volume.specs.TwoRuns.{blankBuffer, blankBlock}
-use Rattle.ids.specs.declared.InodeNumber.{InodeNumber}
+use Rattle.volume.specs.TwoRuns.{blankBuffer}
 use Rattle.volume.specs.declared.Key.{Key}
 use Rattle.volume.specs.declared.Volume.{Volume}
-use Rattle.volume.proofs.Twin.{Setting, test, part, both-fine, encKey, enc, KeyOk, Inv, Same}
-use Rattle.volume.proofs.TwinLookup.{slot-twin, free-key-twin, needed-twin, entryNamed-twin, name-part, directory-part}
+use Rattle.volume.proofs.Twin.{Setting, test, both-fine, encKey, enc, KeyOk, Inv, Same}
+use Rattle.volume.proofs.TwinLookup.{slot-twin, free-key-twin}
 
 key-length-some : (n : ℕ) → isBadKeyLength n ≡ false → eqb n 0 ≡ false
 unfolding isBadKeyLength
@@ -75,40 +73,3 @@ module _ (S : Setting) {g : Names} (v : Volume) (ok : Inv S g v) where
             (all-set (λ i k. KeyOk S k) (v .keys) noKey (keySlotOf v d) noKey (λ i u. absurd (true≢false u)) (λ i ne. ok .keys-ok i) (λ u. absurd (true≢false u)));
         right = tt;
       })
-
-  pub getPolicy-twin : (i : InodeNumber) → Same S g v (getPolicy i) (getPolicy i)
-  unfolding Same check effect getPolicyCheck namedBy naming named blankBuffer
-  getPolicy-twin i =
-      test _ tt refl λ h₁.
-      test _ tt refl λ h₂.
-      both-fine (record { answers = refl; buffers = refl; volumes = refl; inv = ok; right = tt })
-
-  pub find-twin : (p : InodeNumber) (n : Bytes) → ByteList n → Same S g v (find p n) (find p n)
-  unfolding Same check effect findCheck namedBy naming named blankBuffer
-  find-twin p n nb =
-      part (name-part S v ok n) λ plain.
-      part (directory-part S v ok p) λ dir.
-      test _ tt (needed-twin S v ok (inodeAt v p)) λ key.
-      let e = entryNamed-twin S v ok p n key nb in
-      test _ tt (ap (leb entrySlots) e) λ h.
-      both-fine (record { answers = ap (λ (m : ℕ). at (record { 0 = m })) e; buffers = refl; volumes = refl; inv = ok; right = tt })
-
-  pub seal-twin : (i : InodeNumber) (n : ℕ) (b : Bytes) → Same S g v (seal i n b) (seal i n b)
-  unfolding Same check effect blockCheck namedBy naming named blankBuffer blankBlock
-  seal-twin i n b =
-      test _ tt refl λ h₁.
-      test _ tt refl λ h₂.
-      test _ tt refl λ h₃.
-      test _ tt refl λ h₄.
-      test _ tt (needed-twin S v ok (inodeAt v i)) λ key.
-      both-fine (record { answers = refl; buffers = ap zeros (S .lawful .length-seal _ n b); volumes = refl; inv = ok; right = tt })
-
-  pub unseal-twin : (i : InodeNumber) (n : ℕ) (b : Bytes) → Same S g v (unseal i n b) (unseal i n b)
-  unfolding Same check effect blockCheck namedBy naming named blankBuffer blankBlock
-  unseal-twin i n b =
-      test _ tt refl λ h₁.
-      test _ tt refl λ h₂.
-      test _ tt refl λ h₃.
-      test _ tt refl λ h₄.
-      test _ tt (needed-twin S v ok (inodeAt v i)) λ key.
-      both-fine (record { answers = refl; buffers = ap zeros (S .lawful .length-unseal _ n b); volumes = refl; inv = ok; right = tt })

@@ -20,10 +20,9 @@ use Rattle.policy.specs.Policies.{isMasterKeySize, nameKeySize}
 use Rattle.fscrypt.specs.Names.{nameCheck, padded, encrypted}
 use Rattle.fscrypt.proofs.Padding.{pad-fits, length-padded, padded-bytes, name-fits, plain-name}
 use Rattle.volume.specs.Volume.{inodeSlots, noKey, noInode, noEntry, nameOf}
-use Rattle.volume.specs.Lookup.{isFreeKey, onKeyring, keySlotOf, freeKeySlot, keyOf, masterKey, descriptorOf, keyPresent, lacksKey, inodeAt, isDirectory, entryAt, isVacant, freeEntry, isIn, isNamed, entryNamed, firstChild, isLink, firstLink, parentOf, climbFrom, isMoved, isUnderItself}
+use Rattle.volume.specs.Lookup.{isFreeKey, onKeyring, keySlotOf, freeKeySlot, keyOf, masterKey, descriptorOf, keyPresent, lacksKey, inodeAt, isDirectory, entryAt, isVacant, freeEntry, isIn, isNamed, entryNamed, firstChild, isLink, firstLink, parentOf, climbFrom, isMoved, isUnderItself, slotAt}
 use Rattle.volume.specs.DirectoryNames.{derivedKey, nameKey, stored, formIn}
 use Rattle.volume.specs.Checks.{directoryCheck}
-use Rattle.volume.specs.Sound.{slotAt}
 use Rattle.volume.specs.GivenNames.{Names}
 use Rattle.ids.specs.declared.InodeNumber.{InodeNumber}
 use Rattle.ids.specs.declared.EntryNumber.{EntryNumber}

@@ -12,11 +12,10 @@ use Rattle.errno.specs.declared.Checked.the-variants.{Fine}
 use Rattle.policy.specs.Policies.{policyCheck, readPolicy}
 use Rattle.volume.specs.Volume.{entrySlots, noInode, plainInode, encryptedInode, entrySlot}
 use Rattle.volume.specs.Request.{setPolicy, create, link, rename, Lent, no-buffer, done, created, at, outcome}
-use Rattle.volume.specs.Lookup.{lacksKey, inodeAt, isFree, freeInode, nonceHolder, entryAt, isVacant, freeEntry, hasEntries, isUnderItself}
+use Rattle.volume.specs.Lookup.{lacksKey, inodeAt, isFree, freeInode, nonceHolder, entryAt, isVacant, freeEntry, hasEntries, isUnderItself, slotAt, Used, dirOf}
 use Rattle.volume.specs.DirectoryNames.{stored}
 use Rattle.volume.specs.Checks.{isPolicyRefused, isNonceNeeded, nonceCheck, samePolicyCheck, firstPolicyCheck, setPolicyCheck, createCheck, linkCheck, renameCheck}
 use Rattle.volume.specs.Step.{withInodes, withEntries, childOf, check, effect}
-use Rattle.volume.specs.Sound.{slotAt, Used, dirOf}
 use Rattle.volume.specs.GivenNames.{Names, namedBy, naming, named}
 use Rattle.volume.specs.TwoRuns.{blankBuffer}
 use Rattle.ids.specs.declared.InodeNumber.{InodeNumber}

@@ -14,10 +14,9 @@ use Rattle.lists.proofs.Tables.{map-set, map-agree, all-set}
 use Rattle.errno.specs.declared.Checked.the-variants.{Fine}
 use Rattle.fscrypt.specs.Names.{nameCheck}
 use Rattle.volume.specs.Volume.{noInode, noEntry, nameOf, entrySlot}
-use Rattle.volume.specs.Lookup.{lacksKey, inodeAt, isVacant}
+use Rattle.volume.specs.Lookup.{lacksKey, inodeAt, isVacant, slotAt, Used, dirOf}
 use Rattle.volume.specs.DirectoryNames.{stored}
 use Rattle.volume.specs.Step.{withInodes}
-use Rattle.volume.specs.Sound.{slotAt, Used, dirOf}
 use Rattle.volume.specs.GivenNames.{Names, onlyAt, later}
 use Rattle.ids.specs.declared.InodeNumber.{InodeNumber}
 use Rattle.ids.specs.declared.EntryNumber.{EntryNumber}

@@ -22,10 +22,10 @@ use Rattle.fscrypt.proofs.Padding.{nameBytes-packed}
 use Rattle.fscrypt.proofs.PaddingMeanings.{padded-means, readPadded-read}
 use Rattle.volume.specs.Volume.{keySlots, keyBytes, nameOf}
 use Rattle.volume.specs.Request.{show, seal, unseal, done, shown, Outcome, ShownEntry, Form, Plain, Decrypted, Encoded}
-use Rattle.volume.specs.Lookup.{keySlotOf, keyOf, descriptorOf, inodeAt, entryAt}
+use Rattle.volume.specs.Lookup.{keySlotOf, keyOf, descriptorOf, inodeAt, entryAt, keyAt, dirOf}
 use Rattle.volume.specs.DirectoryNames.{derivedKey, nameKey, stored, readName, shownName, formIn}
 use Rattle.volume.specs.Step.{check, effect, step}
-use Rattle.volume.specs.Sound.{keyAt, dirOf, Sound}
+use Rattle.volume.specs.Sound.{Sound}
 use Rattle.volume.specs.Meanings.{KeyIn, KeyPresent, LacksKey}
 use Rattle.volume.specs.UnderKeys.{derivedBy, namesBy, ShownIn, UnderKeys}
 use Rattle.ids.specs.declared.InodeNumber.{InodeNumber}

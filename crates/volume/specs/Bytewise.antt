@@ -1,7 +1,7 @@
 -- What the types say of a volume's byte strings: they are made of bytes, numbers below 256. Past the end of a table a free record is read, all zeros. Assumes nothing.
 use Prim.Native.Nat.{ℕ}
 use Rattle.lists.specs.Bytes.{ByteList}
-use Rattle.volume.specs.Sound.{keyAt, nodeAt, slotAt}
+use Rattle.volume.specs.Lookup.{keyAt, nodeAt, slotAt}
 use Rattle.volume.specs.declared.Volume.{Volume}
 
 pub record Bytewise (v : Volume) : Type 0 where

@@ -13,10 +13,10 @@ use Rattle.policy.specs.Meanings.{PolicyIn}
 use Rattle.fscrypt.specs.Cipher.{Cipher}
 use Rattle.volume.specs.Volume.{noKey, noInode, noEntry, keyBytes, nameOf}
 use Rattle.volume.specs.Request.{addKey, removeKey, setPolicy, create, link, rename, exchange, remove, done, created, at}
-use Rattle.volume.specs.Lookup.{inodeAt, entryAt}
+use Rattle.volume.specs.Lookup.{inodeAt, entryAt, keyAt, nodeAt, slotAt}
 use Rattle.volume.specs.DirectoryNames.{stored}
 use Rattle.volume.specs.Step.{step}
-use Rattle.volume.specs.Sound.{keyAt, nodeAt, slotAt, EntryOf, BearsPolicy, Sound}
+use Rattle.volume.specs.Sound.{EntryOf, BearsPolicy, Sound}
 use Rattle.volume.specs.Meanings.{Least, KeySlotFree, KeyIn, KeyHeld}
 use Rattle.ids.specs.declared.InodeNumber.{InodeNumber}
 use Rattle.ids.specs.declared.EntryNumber.{EntryNumber}

@@ -14,10 +14,10 @@ use Rattle.fscrypt.specs.Cipher.{Cipher}
 use Rattle.fscrypt.specs.Meanings.{PlainName, Multiple, ReadAs}
 use Rattle.volume.specs.Volume.{keySlots, inodeSlots, entrySlots, nameOf}
 use Rattle.volume.specs.Request.{Request, addKey, removeKey, setPolicy, getPolicy, create, link, rename, exchange, remove, find, show, seal, unseal, ShownEntry, Answer, refused, done, created, at, policyIs, shown}
-use Rattle.volume.specs.Lookup.{inodeAt, entryAt}
+use Rattle.volume.specs.Lookup.{inodeAt, entryAt, dirOf, nodeOf}
 use Rattle.volume.specs.DirectoryNames.{nameKey, stored, formIn}
 use Rattle.volume.specs.Step.{step}
-use Rattle.volume.specs.Sound.{dirOf, nodeOf, MayHold, Sound, KeyLength, EntryIn, Below}
+use Rattle.volume.specs.Sound.{MayHold, Sound, KeyLength, EntryIn, Below}
 use Rattle.volume.specs.Meanings.{Least, KeySlotFree, KeyHeld, KeyPresent, LacksKey, InodeFree, NonceBorne, EntryFree, EntryNamed, NameTaken}
 use Rattle.ids.specs.declared.InodeNumber.{InodeNumber}
 use Rattle.ids.specs.declared.EntryNumber.{EntryNumber}

@@ -12,9 +12,8 @@ use Rattle.errno.specs.Refusals.{number}
 use Rattle.errno.specs.declared.Errno.the-variants.{EUCLEAN}
 use Rattle.fscrypt.specs.Cipher.{Cipher}
 use Rattle.volume.specs.Request.{Request, show, refused, shown, AllTyped, ShownEntry, Encoded}
-use Rattle.volume.specs.Lookup.{masterKey, descriptorOf, keyPresent}
+use Rattle.volume.specs.Lookup.{masterKey, descriptorOf, keyPresent, Used, dirOf}
 use Rattle.volume.specs.Run.{Moment, run}
-use Rattle.volume.specs.Sound.{Used, dirOf}
 use Rattle.volume.specs.GivenNames.{Names, namedBy, given}
 use Rattle.ids.specs.declared.EntryNumber.{EntryNumber}
 use Rattle.volume.specs.declared.Volume.{Volume}

@@ -1,6 +1,7 @@
 -- What is looked up in a volume. A number that names nothing reads a free record.
 -- Sentences in quotation marks are document 01's, in its words. Assumes nothing.
 use Prim.Native.Nat.{ℕ, zero, suc}
+use mathlib.Core.Path.{_≡_}
 use mathlib.Core.Bool.{Bool, true, false, cond, not, _&&_}
 use mathlib.Core.List.{List}
 use lib.ListN.{getD}
@@ -18,6 +19,10 @@ use Rattle.volume.specs.declared.Met.{Met}
 use Rattle.volume.specs.declared.Met.the-variants.{Moved, Root, Neither}
 
 -- ---- the keyring
+
+-- the slot of this number; past the last one, a free record
+abbrev pub keyAt : Volume → ℕ → Key
+keyAt v k = getD (v .keys) k noKey
 
 abbrev pub isFreeKey : Key → Bool
 isFreeKey k = eqb (k .len) 0
@@ -57,6 +62,10 @@ lacksKey v i = i .encrypted && not (keyPresent v i)
 abbrev pub inodeAt : Volume → InodeNumber → Inode
 inodeAt v n = getD (v .inodes) (n .0) noInode
 
+-- by a bare number, as what holds of every number is said
+abbrev pub nodeAt : Volume → ℕ → Inode
+nodeAt v i = inodeAt v (record { 0 = i })
+
 -- a free record: no inode (document 01: thing) stands there
 abbrev pub isFree : Inode → Bool
 isFree i = eqb (i .kind) 0
@@ -83,9 +92,24 @@ isBorne v x = ltb (nonceHolder v x) inodeSlots
 abbrev pub entryAt : Volume → EntryNumber → Entry
 entryAt v n = getD (v .entries) (n .0) noEntry
 
+-- by a bare number
+abbrev pub slotAt : Volume → ℕ → Entry
+slotAt v e = entryAt v (record { 0 = e })
+
 -- a free record: no entry (document 01: place) stands there
 abbrev pub isVacant : Entry → Bool
 isVacant e = eqb (e .len) 0
+
+-- the entry is in use
+abbrev pub Used : Volume → ℕ → Type 0
+Used v e = isVacant (slotAt v e) ≡ false
+
+-- the directory that an entry stands in, and the inode that it holds
+abbrev pub dirOf : Volume → ℕ → Inode
+dirOf v e = inodeAt v ((slotAt v e) .parent)
+
+abbrev pub nodeOf : Volume → ℕ → Inode
+nodeOf v e = inodeAt v ((slotAt v e) .inode)
 
 -- the lowest number that is free
 unfoldable pub freeEntry : Volume → ℕ

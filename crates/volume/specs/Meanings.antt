@@ -16,10 +16,10 @@ use Rattle.errno.specs.declared.Checked.the-variants.{Fine, Refused}
 use Rattle.policy.specs.Policies.{policyBytes}
 use Rattle.policy.specs.Meanings.{MasterKeySize}
 use Rattle.volume.specs.Volume.{keySlots, inodeSlots, entrySlots, noKey, noInode, noEntry, rootNumber, nameOf}
-use Rattle.volume.specs.Lookup.{isFreeKey, keySlotOf, freeKeySlot, descriptorOf, keyPresent, lacksKey, inodeAt, isFree, isDirectory, freeInode, isBorne, isVacant, freeEntry, entryNamed, isTaken, hasEntries, isHeld, isUnderItself}
+use Rattle.volume.specs.Lookup.{isFreeKey, keySlotOf, freeKeySlot, descriptorOf, keyPresent, lacksKey, inodeAt, isFree, isDirectory, freeInode, isBorne, isVacant, freeEntry, entryNamed, isTaken, hasEntries, isHeld, isUnderItself, keyAt, nodeAt, slotAt, Used}
 use Rattle.volume.specs.DirectoryNames.{formIn}
 use Rattle.volume.specs.Checks.{directoryCheck, isPolicyRefused, isBadKind, isBadKeyLength, isNonceNeeded}
-use Rattle.volume.specs.Sound.{keyAt, nodeAt, slotAt, Used, EntryIn, EntryOf, Below, KeyLength}
+use Rattle.volume.specs.Sound.{EntryIn, EntryOf, Below, KeyLength}
 use Rattle.volume.specs.PolicyClause.{WouldLack}
 use Rattle.ids.specs.declared.InodeNumber.{InodeNumber}
 use Rattle.ids.specs.declared.EntryNumber.{EntryNumber}

@@ -11,11 +11,11 @@ use Rattle.errno.specs.declared.Checked.the-variants.{Fine}
 use Rattle.fscrypt.specs.Cipher.{Cipher}
 use Rattle.fscrypt.specs.Names.{nameCheck}
 use Rattle.volume.specs.Request.{Request, rename, link, exchange, refused, AllTyped}
-use Rattle.volume.specs.Lookup.{lacksKey, inodeAt, isFree, isDirectory, entryAt, isVacant}
+use Rattle.volume.specs.Lookup.{lacksKey, inodeAt, isFree, isDirectory, entryAt, isVacant, Used, dirOf, nodeOf}
 use Rattle.volume.specs.Checks.{directoryCheck, policyRefusal}
 use Rattle.volume.specs.Step.{step}
 use Rattle.volume.specs.Run.{Moment, run}
-use Rattle.volume.specs.Sound.{BearsPolicy, Used, dirOf, nodeOf, Sound}
+use Rattle.volume.specs.Sound.{BearsPolicy, Sound}
 use Rattle.ids.specs.declared.InodeNumber.{InodeNumber}
 use Rattle.ids.specs.declared.EntryNumber.{EntryNumber}
 use Rattle.volume.specs.declared.Inode.{Inode}

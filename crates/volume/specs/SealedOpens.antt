@@ -9,10 +9,10 @@ use lib.ListN.{length, take}
 use Rattle.lists.specs.Bytes.{Bytes, ByteList}
 use Rattle.fscrypt.specs.Cipher.{Cipher}
 use Rattle.volume.specs.Request.{Request, Typed, AllTyped, create, link, rename, show, seal, unseal, done, created, at, shown, outcome, ShownEntry, Encoded}
-use Rattle.volume.specs.Lookup.{keyOf, descriptorOf, inodeAt, isFree, entryAt}
+use Rattle.volume.specs.Lookup.{keyOf, descriptorOf, inodeAt, isFree, entryAt, dirOf}
 use Rattle.volume.specs.Step.{step}
 use Rattle.volume.specs.Run.{Moment, runFrom}
-use Rattle.volume.specs.Sound.{Sound, dirOf}
+use Rattle.volume.specs.Sound.{Sound}
 use Rattle.volume.specs.Bytewise.{Bytewise}
 use Rattle.ids.specs.declared.InodeNumber.{InodeNumber}
 use Rattle.ids.specs.declared.EntryNumber.{EntryNumber}

@@ -5,41 +5,20 @@ use mathlib.Core.Path.{_≡_}
 use mathlib.Core.Logic.{_≢_, _⊎_}
 use mathlib.Core.Bool.{true, false}
 use mathlib.Core.List.{_++_}
-use lib.ListN.{length, getD}
+use lib.ListN.{length}
 use Rattle.lists.specs.Bytes.{zeros}
 use Rattle.policy.specs.Policies.{noContext}
 use Rattle.policy.specs.Meanings.{ValidPolicy}
 use Rattle.fscrypt.specs.Names.{paddedLength}
 use Rattle.fscrypt.specs.Meanings.{PlainName}
 use Rattle.volume.specs.Volume.{keySlots, inodeSlots, entrySlots, noKey, noInode, noEntry, rootNumber, keyBytes, nameOf}
-use Rattle.volume.specs.Lookup.{isFreeKey, inodeAt, isFree, entryAt, isVacant}
+use Rattle.volume.specs.Lookup.{keyAt, isFreeKey, inodeAt, nodeAt, isFree, slotAt, isVacant, Used, dirOf, nodeOf}
 use Rattle.volume.specs.declared.Key.{Key}
 use Rattle.volume.specs.declared.Inode.{Inode}
-use Rattle.volume.specs.declared.Entry.{Entry}
 use Rattle.volume.specs.declared.Volume.{Volume}
 use Rattle.ids.specs.declared.InodeNumber.{InodeNumber}
 
 -- ---- what stands where
-
-abbrev pub keyAt : Volume → ℕ → Key
-keyAt v k = getD (v .keys) k noKey
-
-abbrev pub nodeAt : Volume → ℕ → Inode
-nodeAt v i = inodeAt v (record { 0 = i })
-
-abbrev pub slotAt : Volume → ℕ → Entry
-slotAt v e = entryAt v (record { 0 = e })
-
--- the entry is in use
-abbrev pub Used : Volume → ℕ → Type 0
-Used v e = isVacant (slotAt v e) ≡ false
-
--- the directory that an entry stands in, and the inode that it holds
-abbrev pub dirOf : Volume → ℕ → Inode
-dirOf v e = inodeAt v ((slotAt v e) .parent)
-
-abbrev pub nodeOf : Volume → ℕ → Inode
-nodeOf v e = inodeAt v ((slotAt v e) .inode)
 
 -- an entry of this number stands in this directory
 pub record EntryIn (v : Volume) (p : InodeNumber) (e : ℕ) : Type 0 where

@@ -13,10 +13,10 @@ use Rattle.fscrypt.specs.Encoded.{encoded}
 use Rattle.fscrypt.specs.Meanings.{Multiple, PaddedTo, ReadAs}
 use Rattle.volume.specs.Volume.{keyBytes, nameOf}
 use Rattle.volume.specs.Request.{show, seal, unseal, done, shown, ShownEntry, Form, Plain, Decrypted, Encoded}
-use Rattle.volume.specs.Lookup.{keyOf, inodeAt, entryAt}
+use Rattle.volume.specs.Lookup.{keyOf, inodeAt, entryAt, keyAt, dirOf}
 use Rattle.volume.specs.DirectoryNames.{stored}
 use Rattle.volume.specs.Step.{step}
-use Rattle.volume.specs.Sound.{keyAt, dirOf, Sound}
+use Rattle.volume.specs.Sound.{Sound}
 use Rattle.volume.specs.Meanings.{KeyIn, LacksKey}
 use Rattle.ids.specs.declared.InodeNumber.{InodeNumber}
 use Rattle.ids.specs.declared.EntryNumber.{EntryNumber}
