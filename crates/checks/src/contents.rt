@@ -1,9 +1,9 @@
 // Seal and open.
-use crate::shared;
 use errno::Checked;
 use errno::Errno;
 use ids::InodeNumber;
 use lookup::inodes;
+use lookup::keyring;
 use volume::FREE;
 use volume::REGULAR;
 use volume::Volume;
@@ -26,7 +26,7 @@ pub fn block_check(v: Volume, i: InodeNumber, n: usize) -> Checked
     if !node.encrypted {
         return Checked::Refused(Errno::ENODATA);
     }
-    if shared::lacks_key(v, i) {
+    if keyring::lacks_key(v, i) {
         return Checked::Refused(Errno::ENOKEY);
     }
     Checked::Fine

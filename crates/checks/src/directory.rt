@@ -9,6 +9,7 @@ use ids::InodeNumber;
 use lookup::climb;
 use lookup::entries;
 use lookup::inodes;
+use lookup::keyring;
 use volume::DIRECTORY;
 use volume::FREE;
 use volume::SPECIAL;
@@ -78,7 +79,7 @@ pub fn create_check(v: Volume, p: InodeNumber, kind: u64, name: &[u8], x: [u8; 1
         }
         Checked::Fine => {}
     }
-    if shared::lacks_key(v, p) {
+    if keyring::lacks_key(v, p) {
         return Checked::Refused(Errno::ENOKEY);
     }
     if entries::is_found(names::entry_of(v, p, name)) {
@@ -96,7 +97,7 @@ fn linked_check(v: Volume, i: InodeNumber, p: InodeNumber, name: &[u8]) -> Check
     if node.kind == DIRECTORY {
         return Checked::Refused(Errno::EPERM);
     }
-    if shared::lacks_key(v, p) {
+    if keyring::lacks_key(v, p) {
         return Checked::Refused(Errno::ENOKEY);
     }
     if shared::is_refused_in(v, p, i) {
@@ -150,10 +151,10 @@ fn move_check(
         }
         Checked::Fine => {}
     }
-    if shared::lacks_key(v, from) {
+    if keyring::lacks_key(v, from) {
         return Checked::Refused(Errno::ENOKEY);
     }
-    if shared::lacks_key(v, p) {
+    if keyring::lacks_key(v, p) {
         return Checked::Refused(Errno::ENOKEY);
     }
     if shared::is_refused_in(v, p, moved) {
@@ -190,10 +191,10 @@ pub fn rename_check(v: Volume, n: EntryNumber, p: InodeNumber, name: &[u8]) -> C
 fn swap_check(v: Volume, p: InodeNumber, i: InodeNumber, q: InodeNumber, j: InodeNumber) -> Checked
     ensures { λ r. ⌜ r ≡ swapCheck v p i q j ⌝ }
 {
-    if shared::lacks_key(v, p) {
+    if keyring::lacks_key(v, p) {
         return Checked::Refused(Errno::ENOKEY);
     }
-    if shared::lacks_key(v, q) {
+    if keyring::lacks_key(v, q) {
         return Checked::Refused(Errno::ENOKEY);
     }
     if shared::is_refused_in(v, p, j) {
@@ -258,7 +259,7 @@ pub fn find_check(v: Volume, p: InodeNumber, name: &[u8]) -> Checked
         }
         Checked::Fine => {}
     }
-    if shared::lacks_key(v, p) {
+    if keyring::lacks_key(v, p) {
         return Checked::Refused(Errno::ENOKEY);
     }
     if !entries::is_found(names::entry_of(v, p, name)) {

@@ -9,16 +9,8 @@ use volume::Inode;
 use volume::SYMLINK;
 use volume::Volume;
 ghost use mathlib.Core.Path.{_≡_};
-ghost use Rattle.volume.specs.Lookup.{inodeAt, lacksKey};
+ghost use Rattle.volume.specs.Lookup.{inodeAt};
 ghost use Rattle.volume.specs.Checks.{directoryCheck, isPolicyRefused, nonceCheck};
-
-// Whether the key of this inode is needed and absent.
-pub fn lacks_key(v: Volume, p: InodeNumber) -> bool
-    ensures { λ r. ⌜ r ≡ lacksKey v (inodeAt v p) ⌝ }
-{
-    let node = inodes::inode_at(v, p);
-    lookup::keyring::lacks_key(v, node)
-}
 
 // The policy refusal: policyRefusal of volume/specs/Checks.antt.
 pub const POLICY_REFUSAL: Errno = Errno::EPERM;

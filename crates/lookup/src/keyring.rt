@@ -1,4 +1,6 @@
 // The keyring: which key has a descriptor, where there is room, and whether the key of an inode is present.
+use crate::inodes;
+use ids::InodeNumber;
 use lists::zeros;
 use volume::Inode;
 use volume::KEY_SLOTS;
@@ -6,7 +8,7 @@ use volume::Key;
 use volume::Volume;
 ghost use mathlib.Core.Path.{_≡_};
 ghost use Rattle.volume.specs.Volume.{noKey};
-ghost use Rattle.volume.specs.Lookup.{isFreeKey, onKeyring, keySlotOf, freeKeySlot, keyOf, keyPresent, lacksKey};
+ghost use Rattle.volume.specs.Lookup.{isFreeKey, onKeyring, keySlotOf, freeKeySlot, keyOf, keyPresent, lacksKey, inodeAt};
 
 // A free slot: all zeros.
 pub fn no_key() -> Key
@@ -91,12 +93,13 @@ pub fn key_present(v: Volume, i: Inode) -> bool
     policy::is_master_key_size(p, k.len)
 }
 
-// Whether the inode is encrypted and its key absent.
-pub fn lacks_key(v: Volume, i: Inode) -> bool
-    ensures { λ r. ⌜ r ≡ lacksKey v i ⌝ }
+// Whether the inode of this number is encrypted and its key absent.
+pub fn lacks_key(v: Volume, n: InodeNumber) -> bool
+    ensures { λ r. ⌜ r ≡ lacksKey v (inodeAt v n) ⌝ }
 {
-    if !i.encrypted {
+    let node = inodes::inode_at(v, n);
+    if !node.encrypted {
         return false;
     }
-    !key_present(v, i)
+    !key_present(v, node)
 }
