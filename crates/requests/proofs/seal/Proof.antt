@@ -17,7 +17,7 @@ returns c = refuses fscrypt _ _ _ (c .before .before .before .block-check .ensur
 
 returns-2 : tie.Need-returns-2
 unfolding check
-returns-2 c = acts fscrypt _ _ _ (c .before .before .before .before .before .before .block-check .ensures) _ (c .before .before .before .before .enum-told .given .1) (c .before .before .seal .ensures)
+returns-2 c = let checked = c .before .before .before .before .before .before .block-check in acts fscrypt _ _ _ (checked .ensures) _ (c .before .before .before .before .enum-told .given .1) (c .before .before .seal .ensures)
 
 pub seal-spec : {M : Type 1} → statement M
 seal-spec =

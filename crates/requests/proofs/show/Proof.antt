@@ -17,7 +17,7 @@ returns c = refuses fscrypt _ _ _ (c .before .before .before .show-check .ensure
 
 returns-2 : tie.Need-returns-2
 unfolding check
-returns-2 c = acts fscrypt _ _ _ (c .before .before .before .before .before .before .show-check .ensures) _ (c .before .before .before .before .enum-told .given .1) (c .before .before .show .ensures)
+returns-2 c = let checked = c .before .before .before .before .before .before .show-check in acts fscrypt _ _ _ (checked .ensures) _ (c .before .before .before .before .enum-told .given .1) (c .before .before .show .ensures)
 
 pub show-spec : {M : Type 1} → statement M
 show-spec =

@@ -15,7 +15,10 @@ returns-2 c = search lines depth 25
 
 returns-3 : tie.Need-returns-3
 unfolding exchangeCheck
-returns-3 c = rw (← c .before .before .before .before .before .before .before .before .before .before .entry-at .ensures, ← c .before .before .before .before .before .before .before .entry-at2 .ensures) (search lines depth 25)
+returns-3 c =
+    let one = c .before .before .before .before .before .before .before .before .before .before .entry-at in
+    let other = c .before .before .before .before .before .before .before .entry-at2 in
+    rw (← one .ensures, ← other .ensures) (search lines depth 25)
 
 pub exchange-check-spec : {M : Type 1} → statement M
 exchange-check-spec =

@@ -15,15 +15,17 @@ returns-2 c = search lines depth 25
 
 returns-3 : tie.Need-returns-3
 returns-3 c =
-    let n = c .before .before .before .before .before .before .before .before .inode-at in
-    let p = c .before .before .before .before .before .read-policy in
-    policy-set _ _ _ _ (n .result) (p .result) (n .ensures) (p .ensures .read) (c .before .before .before .before .before .before .if1 .left) (c .before .before .before .enum-told .given .1) _ (line-so _ _ _ _ (c .before .if2 .taken) (c .same-policy-check .ensures))
+    let node = c .before .before .before .before .before .before .before .before .inode-at in
+    let in-use = c .before .before .before .before .before .before .if1 in
+    let read = c .before .before .before .before .before .read-policy in
+    policy-set _ _ _ _ (node .result) (read .result) (node .ensures) (read .ensures .read) (in-use .left) (c .before .before .before .enum-told .given .1) _ (line-so _ _ _ _ (c .before .if2 .taken) (c .same-policy-check .ensures))
 
 returns-4 : tie.Need-returns-4
 returns-4 c =
-    let n = c .before .before .before .before .before .before .before .before .inode-at in
-    let p = c .before .before .before .before .before .read-policy in
-    policy-set _ _ _ _ (n .result) (p .result) (n .ensures) (p .ensures .read) (c .before .before .before .before .before .before .if1 .left) (c .before .before .before .enum-told .given .1) _ (line-not _ _ _ _ (c .before .if2 .left) (c .first-policy-check .ensures))
+    let node = c .before .before .before .before .before .before .before .before .inode-at in
+    let in-use = c .before .before .before .before .before .before .if1 in
+    let read = c .before .before .before .before .before .read-policy in
+    policy-set _ _ _ _ (node .result) (read .result) (node .ensures) (read .ensures .read) (in-use .left) (c .before .before .before .enum-told .given .1) _ (line-not _ _ _ _ (c .before .if2 .left) (c .first-policy-check .ensures))
 
 pub set-policy-check-spec : {M : Type 1} → statement M
 set-policy-check-spec =

@@ -30,9 +30,9 @@ copy-to-requires c κs =
 
 returns : tie.Need-returns
 returns c =
-    let s = c .before .before .before .before .before .before .before .before in
-    let h = name-sized (s .args .n) (s .good .1 .0) in
-    c .before .before .copy-to .ensures ∙ copied-over (now (s .args .buf)) (nameBytes (s .args .n)) (omega (arith, cut-length h))
+    let start = c .before .before .before .before .before .before .before .before in
+    let h = name-sized (start .args .n) (start .good .1 .0) in
+    c .before .before .copy-to .ensures ∙ copied-over (now (start .args .buf)) (nameBytes (start .args .n)) (omega (arith, cut-length h))
 
 pub copy-name-spec : {M : Type 1} → statement M
 copy-name-spec =

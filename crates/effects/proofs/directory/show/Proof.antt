@@ -8,11 +8,13 @@ use Rattle.effects.proofs.directory.show.Tie as tie
 
 returns : tie.Need-returns
 returns c =
-    let k = c .before .before .before .before .before .before .before in
-    let e = k .before .before .before .before .entry-at in
-    let d = k .before .inode-at in
-    show-acts fscrypt _ _ _ _ (e .result) (d .result) (c .before .inode-at2 .result) (k .shown-name .result) (formAnswered (c .form-in .result)) (e .ensures) (d .ensures) (k .shown-name .ensures)
-    (c .before .before .before .before .copy-name .ensures) (c .before .inode-at2 .ensures) (c .form-in .ensures)
+    let after-name = c .before .before .before .before .before .before .before in
+    let shown = after-name .shown-name in
+    let dir = after-name .before .inode-at in
+    let entry = after-name .before .before .before .before .entry-at in
+    let node = c .before .inode-at2 in
+    show-acts fscrypt _ _ _ _ (entry .result) (dir .result) (node .result) (shown .result) (formAnswered (c .form-in .result)) (entry .ensures) (dir .ensures) (shown .ensures)
+    (c .before .before .before .before .copy-name .ensures) (node .ensures) (c .form-in .ensures)
 
 pub show-spec : {M : Type 1} → statement M
 show-spec =

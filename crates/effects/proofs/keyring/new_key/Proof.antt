@@ -13,10 +13,10 @@ copy-to-requires c κs = let z : length (c .before .before .no-key .result .byte
 
 returns : tie.Need-returns
 returns c =
-    let z = c .before .before .before .before .no-key in
-    let s = c .before .before .before .before .before .before in
-    let l : length (z .result .bytes) ≡ 64 = search needs in
-    key-laid (s .args .d) _ (s .args .key .now) (z .result) (c .before .copy-to .ensures ∙ copied-over (z .result .bytes) (s .args .key .now) (omega arith)) (z .ensures)
+    let free = c .before .before .before .before .no-key in
+    let start = c .before .before .before .before .before .before in
+    let slot : length (free .result .bytes) ≡ 64 = search needs in
+    key-laid (start .args .d) _ (start .args .key .now) (free .result) (c .before .copy-to .ensures ∙ copied-over (free .result .bytes) (start .args .key .now) (omega arith)) (free .ensures)
 
 pub new-key-spec : {M : Type 1} → statement M
 new-key-spec =

@@ -28,8 +28,8 @@ array-share-prefix-b c =
 
 slice-aggregate-same-bytes-2 : tie.Need-slice-aggregate-same-bytes-2
 slice-aggregate-same-bytes-2 c =
-    let s = c .before .before .before .before .before .before in
-    let h = name-sized (s .args .s) (s .good .1 .0) in
+    let start = c .before .before .before .before .before .before in
+    let h = name-sized (start .args .s) (start .good .1 .0) in
     sym (length-take-le _ _ (omega arith))
 
 pub same-name-spec : {M : Type 1} → statement M

@@ -8,9 +8,9 @@ use Rattle.requests.proofs.claims.every_request_is_typed.Tie as tie
 
 returns : tie.Need-returns
 returns c =
-    let s = c .before .before .before .before .before .before in
-    let ld : length (s .args .t7) ≡ 8 = search needs in
-    let lx : length (s .args .t8) ≡ 16 = search needs in
+    let start = c .before .before .before .before .before .before in
+    let ld : length (start .args .t7) ≡ 8 = search needs in
+    let lx : length (start .args .t8) ≡ 16 = search needs in
     each-typed _ _ _ _ _ _ _ _ _ ld lx (c .before .before .before .are-bytes .ensures) (c .before .are-bytes2 .ensures) (c .are-bytes3 .ensures)
 
 pub every-request-is-typed-spec : {M : Type 1} → statement M
