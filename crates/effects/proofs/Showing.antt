@@ -8,8 +8,11 @@ use Rattle.lists.specs.Bytes.{Bytes, laidOver}
 use Rattle.lists.proofs.Tests.{if-true, if-false}
 use Rattle.fscrypt.specs.Cipher.{Cipher}
 use Rattle.fscrypt.specs.Names.{nameBytes, packed}
+use Rattle.fscrypt.specs.Keys.{derivedBytes}
+use Rattle.fscrypt.specs.declared.DerivedKey.{DerivedKey}
 use Rattle.fscrypt.specs.declared.NameRead.{NameRead}
 use Rattle.fscrypt.proofs.Padding.{nameBytes-packed}
+use Rattle.names.specs.Derived.{DerivedFor}
 use Rattle.names.specs.Shown.{shownRead}
 use Rattle.volume.specs.Volume.{nameOf}
 use Rattle.volume.specs.Request.{outcome, done, shown, show, seal, unseal, Form, Plain, Decrypted, Encoded}
@@ -58,17 +61,18 @@ module _ (C : Cipher) (v : Volume) where
 
   -- ---- seal and open
 
-  module _ (i : InodeNumber) (number : ℕ) (b b′ : Bytes) (node : Inode) (key : Bytes) (hn : node ≡ inodeAt v i) (hk : key ≡ derivedKey C v node) where
-    under : key ≡ derivedKey C v (inodeAt v i)
-    under = hk ∙ ap (derivedKey C v) hn
+  module _ (i : InodeNumber) (number : ℕ) (b b′ : Bytes) (node : Inode) (key : DerivedKey) (hn : node ≡ inodeAt v i) (hk : DerivedFor C v node key) where
+    -- what is made of the mode and the derived key of the inode that was read is made of the inode's own
+    of-own : (f : ℕ → Bytes → Bytes) → f (node .context .policy .contents) (derivedBytes key) ≡ f (inodeAt v i .context .policy .contents) (derivedKey C v (inodeAt v i))
+    of-own f = ap (f (node .context .policy .contents)) (hk .bytes) ∙ ap (λ (x : Inode). f (x .context .policy .contents) (derivedKey C v x)) hn
 
-    pub seal-acts : b′ ≡ C .seal key number b → outcome done b′ v ≡ effect C v (seal i number b)
+    pub seal-acts : b′ ≡ C .seal (node .context .policy .contents) (derivedBytes key) number b → outcome done b′ v ≡ effect C v (seal i number b)
     unfolding effect
-    seal-acts h = ap (λ (x : Bytes). outcome done x v) (h ∙ ap (λ (k : Bytes). C .seal k number b) under)
+    seal-acts h = ap (λ (x : Bytes). outcome done x v) (h ∙ of-own (λ mode k. C .seal mode k number b))
 
-    pub open-acts : b′ ≡ C .unseal key number b → outcome done b′ v ≡ effect C v (unseal i number b)
+    pub open-acts : b′ ≡ C .unseal (node .context .policy .contents) (derivedBytes key) number b → outcome done b′ v ≡ effect C v (unseal i number b)
     unfolding effect
-    open-acts h = ap (λ (x : Bytes). outcome done x v) (h ∙ ap (λ (k : Bytes). C .unseal k number b) under)
+    open-acts h = ap (λ (x : Bytes). outcome done x v) (h ∙ of-own (λ mode k. C .unseal mode k number b))
 
 -- the inode read is encrypted and its key is not needed: it is there
 pub key-there : (v : Volume) (i : InodeNumber) (node : Inode) → node ≡ inodeAt v i → lacksKey v (inodeAt v i) ≡ false → inodeAt v i .encrypted ≡ true → keyPresent v node ≡ true

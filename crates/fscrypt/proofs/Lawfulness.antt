@@ -14,7 +14,7 @@ fscrypt-lawful = record {
   bytes-encryptName = ctsEncrypt-bytes;
   length-decryptName = ctsDecrypt-length;
   decrypt-encrypt = λ k t hk ht. ap (λ (a : Outcome). a .buffer) (ctsDecrypt-ctsEncrypt k t hk ht);
-  length-seal = xtsEncrypt-length;
-  length-unseal = xtsDecrypt-length;
-  unseal-seal = λ k n b hk hb. ap (λ (a : Outcome). a .buffer) (xtsDecrypt-xtsEncrypt k n b hk hb);
+  length-seal = λ mode. xtsEncrypt-length;
+  length-unseal = λ mode. xtsDecrypt-length;
+  unseal-seal = λ mode k n b hk hb. ap (λ (a : Outcome). a .buffer) (xtsDecrypt-xtsEncrypt k n b hk hb);
 }

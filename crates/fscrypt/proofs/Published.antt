@@ -8,11 +8,11 @@ use Rattle.ciphers.specs.Entries.{Outcome}
 use Rattle.ciphers.proofs.Published.{Example, ecb, cts, xts, Holds, AllHold, blocks, blocks-hold, texts, texts-hold, units, units-hold}
 use Rattle.fscrypt.specs.Cipher.{fscrypt, derive, encryptName, seal}
 
--- the nonce is the AES key, and the master key is the text
+-- the nonce is the AES key, and the master key is the text; contents mode 1 is AES-256-XTS
 abbrev Carried : Example → Type 0
 Carried (ecb key text expected) = fscrypt .derive text key ≡ expected
 Carried (cts key text expected) = fscrypt .encryptName key text ≡ expected
-Carried (xts key number start expected) = take 32 (fscrypt .seal key number (start ++ zeros 4064)) ≡ expected
+Carried (xts key number start expected) = take 32 (fscrypt .seal 1 key number (start ++ zeros 4064)) ≡ expected
 
 abbrev AllCarried : List Example → Type 0
 AllCarried [] = Unit {0}

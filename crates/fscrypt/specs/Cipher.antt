@@ -12,9 +12,9 @@ pub record Cipher : Type 0 where
   -- a padded name under a key
   pub encryptName : Bytes → Bytes → Bytes
   pub decryptName : Bytes → Bytes → Bytes
-  -- a block of contents under a derived key and the block's number; unseal is document 01's open
-  pub seal : Bytes → ℕ → Bytes → Bytes
-  pub unseal : Bytes → ℕ → Bytes → Bytes
+  -- a block of contents by the contents mode of a policy, under a derived key and the block's number; unseal is document 01's open
+  pub seal : ℕ → Bytes → ℕ → Bytes → Bytes
+  pub unseal : ℕ → Bytes → ℕ → Bytes → Bytes
 
 -- lengths are kept, bytes stay bytes, and what was encrypted decrypts
 pub record Lawful (C : Cipher) : Type 0 where
@@ -24,9 +24,9 @@ pub record Lawful (C : Cipher) : Type 0 where
   pub bytes-encryptName : (k t : Bytes) → ByteList k → ByteList t → ByteList (C .encryptName k t)
   pub length-decryptName : (k t : Bytes) → length (C .decryptName k t) ≡ length t
   pub decrypt-encrypt : (k t : Bytes) → ByteList k → ByteList t → C .decryptName k (C .encryptName k t) ≡ t
-  pub length-seal : (k : Bytes) (n : ℕ) (b : Bytes) → length (C .seal k n b) ≡ length b
-  pub length-unseal : (k : Bytes) (n : ℕ) (b : Bytes) → length (C .unseal k n b) ≡ length b
-  pub unseal-seal : (k : Bytes) (n : ℕ) (b : Bytes) → ByteList k → ByteList b → C .unseal k n (C .seal k n b) ≡ b
+  pub length-seal : (mode : ℕ) (k : Bytes) (n : ℕ) (b : Bytes) → length (C .seal mode k n b) ≡ length b
+  pub length-unseal : (mode : ℕ) (k : Bytes) (n : ℕ) (b : Bytes) → length (C .unseal mode k n b) ≡ length b
+  pub unseal-seal : (mode : ℕ) (k : Bytes) (n : ℕ) (b : Bytes) → ByteList k → ByteList b → C .unseal mode k n (C .seal mode k n b) ≡ b
 
 -- At lengths that the ciphers refuse the text stays as it was; a key that is present has 64 bytes, a nonce 16, a padded name 16 to 255 and a block that passed
 -- its check 4,096, so no request on a volume that requests made meets that.
@@ -42,12 +42,13 @@ encryptName key text = (ctsEncrypt key text) .buffer
 unfoldable pub decryptName : Bytes → Bytes → Bytes
 decryptName key text = (ctsDecrypt key text) .buffer
 
--- "XTS: first 32 bytes of the derived key for data, last 32 for the tweak"
-unfoldable pub seal : Bytes → ℕ → Bytes → Bytes
-seal key number block = (xtsEncrypt key number block) .buffer
+-- "contents 1 (AES-256-XTS)"; "XTS: first 32 bytes of the derived key for data, last 32 for the tweak". No policy has another contents mode so far, so the
+-- mode is not looked at: a number that is no mode, in a volume that no request made, seals as 1 does, and no block is answered in plain.
+unfoldable pub seal : ℕ → Bytes → ℕ → Bytes → Bytes
+seal mode key number block = (xtsEncrypt key number block) .buffer
 
-unfoldable pub unseal : Bytes → ℕ → Bytes → Bytes
-unseal key number block = (xtsDecrypt key number block) .buffer
+unfoldable pub unseal : ℕ → Bytes → ℕ → Bytes → Bytes
+unseal mode key number block = (xtsDecrypt key number block) .buffer
 
 abbrev pub fscrypt : Cipher
 fscrypt = record { derive = derive; encryptName = encryptName; decryptName = decryptName; seal = seal; unseal = unseal }

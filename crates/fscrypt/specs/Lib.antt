@@ -1,5 +1,6 @@
 -- The definitions of fscrypt.
 pub mod Cipher
+pub mod Keys
 pub mod Names
 pub mod Encoded
 pub mod Meanings

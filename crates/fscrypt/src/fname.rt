@@ -1,7 +1,6 @@
 // Names: which are plain, how one is stored in an encrypted directory, and how a stored one is read.
 use crate::Name;
 use crate::NameRead;
-use crate::keysetup;
 use errno::Checked;
 use errno::Errno;
 use lists::zeros;
@@ -10,7 +9,7 @@ ghost use Prim.Native.Nat.{_≤_, max};
 ghost use lib.ListN.{length};
 ghost use Rattle.errno.specs.Refusals.{isFine};
 ghost use Rattle.lists.specs.Bytes.{firstAt, laidOver};
-ghost use Rattle.fscrypt.specs.Cipher.{fscrypt, decryptName};
+ghost use Rattle.fscrypt.specs.Cipher.{fscrypt, encryptName, decryptName};
 ghost use Rattle.fscrypt.specs.Names.{isNul, isNulOrSlash, isDotName, isBadName, nameCheck, multiple, paddedLength, padded, isAllNul, readPadded, nameBytes, packed};
 ghost use Rattle.fscrypt.specs.Names;
 
@@ -176,6 +175,19 @@ fn pad(flags: u8, name: &[u8]) -> Name
 
 // Stored names
 
+// A padded name encrypted in place under a names key, which is the start of a derived key.
+fn encrypt_text(key: &[u8], text: &mut [u8])
+    ensures { λ _. ⌜ now (text .exit) ≡ encryptName (now (key .entry)) (now (text .entry)) ⌝ }
+{
+    ciphers::cts_encrypt(key, text);
+}
+
+fn decrypt_text(key: &[u8], text: &mut [u8])
+    ensures { λ _. ⌜ now (text .exit) ≡ decryptName (now (key .entry)) (now (text .entry)) ⌝ }
+{
+    ciphers::cts_decrypt(key, text);
+}
+
 // A plain name as it is stored under the names key of its directory.
 pub fn encrypt_name(key: &[u8], flags: u8, name: &[u8]) -> Name
     requires { ⌜ length (now name) ≤ 255 ⌝ }
@@ -184,7 +196,7 @@ pub fn encrypt_name(key: &[u8], flags: u8, name: &[u8]) -> Name
     let plain = pad(flags, name);
     let mut bytes = plain.bytes;
     let len = plain.len as usize;
-    keysetup::encrypt_text(key, &mut bytes[..len]);
+    encrypt_text(key, &mut bytes[..len]);
     Name {
         len: plain.len,
         bytes: bytes,
@@ -197,7 +209,7 @@ fn decrypted(key: &[u8], stored: Name) -> Name
 {
     let mut bytes = stored.bytes;
     let len = stored.len as usize;
-    keysetup::decrypt_text(key, &mut bytes[..len]);
+    decrypt_text(key, &mut bytes[..len]);
     Name {
         len: stored.len,
         bytes: bytes,

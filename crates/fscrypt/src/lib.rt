@@ -1,11 +1,18 @@
-// The fscrypt rules for keys and names, over the ciphers: derived keys (keysetup), and names as they are stored, read and shown (fname). The crates above
-// call these once their own checks have passed, so some have a `requires`.
+// The fscrypt rules over the ciphers, in files as Linux's fs/crypto has them: derived keys (keysetup), contents (crypto), and names as they are stored, read
+// (fname) and shown (encode). The crates above call these once their own checks have passed, so some have a `requires`.
+pub mod crypto;
 pub mod encode;
 pub mod fname;
 pub mod keysetup;
 
 use errno::Checked;
 ghost use Rattle.fscrypt.specs.Meanings.{NameMeanings};
+
+// A derived key by value: the first len bytes. It is as long as its master key.
+pub struct DerivedKey {
+    pub len: u8,
+    pub bytes: [u8; 64],
+}
 
 // A name by value: the first len bytes, and zeros.
 pub struct Name {

@@ -1,10 +1,12 @@
--- The cases of a stored and of a shown name, over what code has at each return. Assumes nothing.
+-- The key derived for an inode, and the cases of a stored and of a shown name, over what code has at each return. How long a key that is present is, is said
+-- once (`present-sizes`). Assumes nothing.
 use mathlib.Core.Path.{_≡_, refl, sym, ap, ap₂, _∙_}
 use mathlib.Core.Bool.{Bool, true, false, cond, not, _&&_}
-use mathlib.Core.List.{[]}
-use Prim.Native.Nat.{ℕ}
-use lib.ListN.{length, take}
-use lib.Seq.{take-length}
+use mathlib.Core.List.{[], _++_}
+use Prim.Native.Nat.{ℕ, _≤_}
+use native.Mathlib.Omega.{arith}
+use lib.ListN.{length, take, length-append}
+use lib.Seq.{take-take, take-at}
 use borrow.Author.Tests.{eqb-true}
 use Rattle.lists.specs.Bytes.{Bytes}
 use Rattle.lists.proofs.Tests.{if-true, if-false}
@@ -15,6 +17,7 @@ use Rattle.policy.specs.Policies.{isMasterKeySize, nameKeySize}
 use Rattle.fscrypt.specs.Cipher.{Cipher}
 use Rattle.fscrypt.specs.Names.{encrypted, paddingCheck, readPadded, beforeNul, nameBytes, packed}
 use Rattle.fscrypt.specs.Encoded.{encoded}
+use Rattle.fscrypt.specs.declared.DerivedKey.{DerivedKey}
 use Rattle.fscrypt.specs.declared.Name.{Name}
 use Rattle.fscrypt.specs.declared.NameRead.{NameRead}
 use Rattle.fscrypt.proofs.Padding.{nameBytes-packed}
@@ -26,7 +29,42 @@ use Rattle.ids.specs.declared.InodeNumber.{InodeNumber}
 use Rattle.volume.specs.declared.Key.{Key}
 use Rattle.volume.specs.declared.Inode.{Inode}
 use Rattle.volume.specs.declared.Volume.{Volume}
+use Rattle.names.specs.Derived.{DerivedFor}
 use Rattle.names.specs.Shown.{shownRead}
+
+-- ---- keys
+
+-- a key that is present fits its slot, and is long enough for names: the one place that says how long it is
+pub record PresentSizes (i : Inode) (k : Key) : Type 0 where
+  pub fits : k .len ≤ length (k .bytes)
+  pub for-names : nameKeySize (i .context .policy) ≤ k .len
+
+pub present-sizes : (v : Volume) (i : Inode) (k : Key) → k ≡ keyOf v (descriptorOf i) → keyPresent v i ≡ true → length (k .bytes) ≡ 64 → PresentSizes i k
+unfolding keyPresent isMasterKeySize nameKeySize
+present-sizes v i k e p l =
+    let n : k .len ≡ 64 = ap (λ (y : Key). y .len) e ∙ eqb-true _ 64 p in
+    record { fits = omega arith; for-names = omega arith }
+
+-- the start of a slot derived in place, and what stands behind it
+pub derived-by : (C : Cipher) (v : Volume) (i : Inode) (k : Key) (b rest : Bytes) → k ≡ keyOf v (descriptorOf i) → PresentSizes i k
+    → length b ≡ k .len → b ≡ C .derive (keyBytes k) (i .context .nonce) → DerivedFor C v i (record { len = k .len; bytes = b ++ rest })
+unfolding derivedKey
+derived-by C v i k b rest e s l q = record {
+  bytes = take-at b rest (k .len) l ∙ q ∙ ap (λ (x : Key). C .derive (keyBytes x) (i .context .nonce)) e;
+  fits = omega (arith, length-append b rest);
+  for-names = s .for-names;
+}
+
+-- the key for names, as code cuts it off a derived key
+module _ (C : Cipher) (v : Volume) (dir : Inode) (d : DerivedKey) (n : ℕ) (h : DerivedFor C v dir d) (e : n ≡ nameKeySize (dir .context .policy)) where
+  pub names-key-fits : n ≤ length (d .bytes)
+  names-key-fits = omega (arith, h .for-names, h .fits)
+
+  pub names-key : take n (d .bytes) ≡ nameKey C v dir
+  unfolding nameKey
+  names-key = sym (take-take n (d .len) (d .bytes) (omega (arith, h .for-names))) ∙ ap₂ take e (h .bytes)
+
+-- ---- names
 
 -- what was read is a packed name, or EUCLEAN and no name
 pub record Plainly (x : NameRead) : Type 0 where
@@ -43,27 +81,10 @@ plainly-read C v dir s = go (isFine (paddingCheck (dir .context .policy .flags) 
     go true b = record { whole = ap (λ (x : Bytes). record { checked = Fine; name = packed x }) (sym (nameBytes-packed (beforeNul b))) }
     go false b = record { whole = ap (λ (x : Bytes). record { checked = Refused EUCLEAN; name = packed x }) (sym (nameBytes-packed [])) }
 
--- the key for names, as code cuts it off a derived key
-pub names-key : (C : Cipher) (v : Volume) (dir : Inode) (d key : Bytes) (n : ℕ) → d ≡ derivedKey C v dir → n ≡ nameKeySize (dir .context .policy) → key ≡ take n d → key ≡ nameKey C v dir
-unfolding nameKey
-names-key C v dir d key n e h k = k ∙ ap₂ take h e
-
 read-with : (C : Cipher) (v : Volume) (dir : Inode) (s : Bytes) (n : Name) (key : Bytes) → n ≡ packed s → key ≡ nameKey C v dir
     → readPadded (dir .context .policy .flags) (C .decryptName key (nameBytes n)) ≡ readName C v dir s
 unfolding readName
 read-with C v dir s n key h d = ap₂ (λ (k b : Bytes). readPadded (dir .context .policy .flags) (C .decryptName k b)) d (ap nameBytes h ∙ nameBytes-packed s)
-
--- a key that is present fills its slot
-pub whole-key : (v : Volume) (i : Inode) (k : Key) → k ≡ keyOf v (descriptorOf i) → keyPresent v i ≡ true → length (k .bytes) ≡ 64 → k .bytes ≡ keyBytes (keyOf v (descriptorOf i))
-unfolding keyPresent isMasterKeySize
-whole-key v i k e p l =
-    let n : k .len ≡ 64 = ap (λ (y : Key). y .len) e ∙ eqb-true _ 64 p in
-    sym (ap (λ (m : ℕ). take m (k .bytes)) (n ∙ sym l) ∙ take-length (k .bytes)) ∙ ap keyBytes e
-
-pub derived-by : (C : Cipher) (v : Volume) (i : Inode) (k : Key) (r : Bytes) → k ≡ keyOf v (descriptorOf i) → keyPresent v i ≡ true → length (k .bytes) ≡ 64
-    → r ≡ C .derive (k .bytes) (i .context .nonce) → r ≡ derivedKey C v i
-unfolding derivedKey
-derived-by C v i k r e p l q = q ∙ ap (λ (b : Bytes). C .derive b (i .context .nonce)) (whole-key v i k e p l)
 
 module _ (C : Cipher) (v : Volume) (dir : Inode) where
   pub stored-plain : (n : Bytes) (r : Name) → dir .encrypted ≡ false → r ≡ packed n → r ≡ packed (stored C v dir n)

@@ -1,2 +1,3 @@
 -- The definitions of names.
+pub mod Derived
 pub mod Shown

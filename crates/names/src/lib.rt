@@ -1,5 +1,6 @@
 // Names in the directories of a volume: as they are stored, and as they are shown.
 use errno::Checked;
+use fscrypt::DerivedKey;
 use fscrypt::Name;
 use fscrypt::NameRead;
 use fscrypt::encode;
@@ -19,21 +20,27 @@ ghost use Rattle.fscrypt.specs.Cipher.{fscrypt};
 ghost use Rattle.fscrypt.specs.Names.{packed};
 ghost use Rattle.volume.specs.Volume.{nameOf};
 ghost use Rattle.volume.specs.Lookup.{inodeAt, keyPresent, lacksKey, entryNamed};
-ghost use Rattle.volume.specs.DirectoryNames.{derivedKey, stored};
+ghost use Rattle.volume.specs.DirectoryNames.{stored};
+ghost use Rattle.names.specs.Derived.{DerivedFor};
 ghost use Rattle.names.specs.Shown.{shownRead};
 
-// The key derived for an inode whose master key is held.
-pub fn derived_key(v: Volume, n: Inode) -> [u8; 64]
+// The key derived for an inode whose master key is held. It is as long as that key.
+pub fn derived_key(v: Volume, n: Inode) -> DerivedKey
     requires { ⌜ keyPresent v n ≡ true ⌝ }
-    ensures { λ r. ⌜ r ≡ derivedKey fscrypt v n ⌝ }
+    ensures { λ r. ⌜ DerivedFor fscrypt v n r ⌝ }
 {
     let c = n.context;
     let p = c.policy;
     let d = p.descriptor;
     let k = keyring::key_of(v, d);
-    let master = k.bytes;
+    let mut bytes = k.bytes;
+    let len = k.len as usize;
     let x = c.nonce;
-    keysetup::derive_key(master, x)
+    keysetup::derive_key(&mut bytes[..len], x);
+    DerivedKey {
+        len: k.len,
+        bytes: bytes,
+    }
 }
 
 // A plain name as this directory stores it.
@@ -48,8 +55,9 @@ pub fn stored_name(v: Volume, dir: Inode, name: &[u8]) -> Name
     let c = dir.context;
     let p = c.policy;
     let key = derived_key(v, dir);
+    let bytes = key.bytes;
     let size = policy::name_key_size(p);
-    fname::encrypt_name(&key[..size], p.flags, name)
+    fname::encrypt_name(&bytes[..size], p.flags, name)
 }
 
 // The entry that bears this name in the directory, or the number of slots.
@@ -91,6 +99,7 @@ pub fn shown_name(v: Volume, dir: Inode, n: EntryNumber, e: Entry) -> NameRead
     let c = dir.context;
     let p = c.policy;
     let key = derived_key(v, dir);
+    let bytes = key.bytes;
     let size = policy::name_key_size(p);
-    fname::decrypt_name(&key[..size], p.flags, name)
+    fname::decrypt_name(&bytes[..size], p.flags, name)
 }

@@ -82,7 +82,9 @@ fn write_name(name: Name) {
 // The derived key of a directory.
 fn key_of(context: Context, master: [u8; 64]) -> [u8; 64] {
     let nonce = context.nonce;
-    keysetup::derive_key(master, nonce)
+    let mut key = master;
+    keysetup::derive_key(&mut key, nonce);
+    key
 }
 
 // A name of at most 255 bytes, as the directory with this context stores it.

@@ -34,15 +34,15 @@ unfoldable pub weighed : Bytes → ℕ
 weighed [] = 0
 weighed (b ∷ bs) = (b + 3 * weighed bs) % 251
 
--- a derived key is moved by what the nonce weighs, a name by what its key weighs, and a block by that and a remainder of its number
+-- a derived key is moved by what the nonce weighs, a name by what its key weighs, and a block by that, a remainder of its number and 16 times its mode
 unfoldable pub small : Cipher
 small =
     record {
       derive = λ k x. moved (weighed x) k;
       encryptName = λ k t. moved (weighed k) t;
       decryptName = λ k t. back (weighed k) t;
-      seal = λ k n b. moved (weighed k + n % 251) b;
-      unseal = λ k n b. back (weighed k + n % 251) b;
+      seal = λ m k n b. moved (weighed k + n % 251 + 16 * m) b;
+      unseal = λ m k n b. back (weighed k + n % 251 + 16 * m) b;
     }
 
 -- ---- the parts of requests and answers

@@ -182,26 +182,26 @@ policies =
 
 blocks : List Occasion
 blocks =
-    -- two files in an encrypted directory: each block is sealed under its own file's key and its own number
+    -- two files in an encrypted directory: each block is sealed by its mode, under its own file's key and its own number
     addKey (descriptor 8) (key 9) answers done
     ∷ create (inode 0) 1 (100 ∷ []) (nonce 0) answers created (inode 1) (entry 0)
-    ∷ setPolicy (inode 1) (policy 1 8) (nonce 1) answers done
+    ∷ setPolicy (inode 1) (policy 2 8) (nonce 1) answers done
     ∷ create (inode 1) 2 (97 ∷ []) (nonce 2) answers created (inode 2) (entry 1)
     ∷ create (inode 1) 2 (98 ∷ []) (nonce 3) answers created (inode 3) (entry 2)
-    ∷ seal (inode 2) 0 (block 1) answers done leaving (block 229)
-    ∷ seal (inode 2) 255 (block 1) answers done leaving (block 233)
-    ∷ seal (inode 2) 256 (block 1) answers done leaving (block 234)
-    ∷ seal (inode 2) 65536 (block 1) answers done leaving (block 254)
-    ∷ seal (inode 2) 4294967296 (block 1) answers done leaving (block 96)
-    ∷ seal (inode 2) 9223372036854775808 (block 1) answers done leaving (block 133)
-    ∷ seal (inode 2) 18446744073709551615 (block 1) answers done leaving (block 41)
-    ∷ seal (inode 3) 0 (block 1) answers done leaving (block 146)
-    ∷ unseal (inode 2) 0 (block 229) answers done leaving (block 1)
-    ∷ unseal (inode 2) 18446744073709551615 (block 41) answers done leaving (block 1)
+    ∷ seal (inode 2) 0 (block 1) answers done leaving (block 245)
+    ∷ seal (inode 2) 255 (block 1) answers done leaving (block 249)
+    ∷ seal (inode 2) 256 (block 1) answers done leaving (block 250)
+    ∷ seal (inode 2) 65536 (block 1) answers done leaving (block 14)
+    ∷ seal (inode 2) 4294967296 (block 1) answers done leaving (block 112)
+    ∷ seal (inode 2) 9223372036854775808 (block 1) answers done leaving (block 149)
+    ∷ seal (inode 2) 18446744073709551615 (block 1) answers done leaving (block 57)
+    ∷ seal (inode 3) 0 (block 1) answers done leaving (block 162)
+    ∷ unseal (inode 2) 0 (block 245) answers done leaving (block 1)
+    ∷ unseal (inode 2) 18446744073709551615 (block 57) answers done leaving (block 1)
     -- another master key of the same file is another key
     ∷ removeKey (descriptor 8) answers done
     ∷ addKey (descriptor 8) (key 10) answers done
-    ∷ seal (inode 2) 0 (block 1) answers done leaving (block 230)
+    ∷ seal (inode 2) 0 (block 1) answers done leaving (block 246)
     -- what was refused leaves the buffer, and show what stands past the name
     ∷ seal (inode 1) 0 (block 77) answers refused 22 leaving (77 ∷ 77 ∷ [])
     ∷ unseal (inode 50) 0 (block 77) answers refused 2 leaving (77 ∷ 77 ∷ [])

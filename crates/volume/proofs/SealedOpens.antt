@@ -92,13 +92,14 @@ module _ (C : Cipher) (law : Lawful C) where
   later-opens v w bytes i n b hb q k h =
       let fine : blockCheck v i (length b) ≡ Fine = was-fine C v (seal i n b) done refl h in
       let key = derivedKey C v (inodeAt v i) in
-      let sealed = C .seal key n b in
-      let again : blockCheck w i (length sealed) ≡ Fine = block-same v w i (length sealed) q k ∙ ap (blockCheck v i) (law .length-seal key n b) ∙ fine in
+      let mode = inodeAt v i .context .policy .contents in
+      let sealed = C .seal mode key n b in
+      let again : blockCheck w i (length sealed) ≡ Fine = block-same v w i (length sealed) q k ∙ ap (blockCheck v i) (law .length-seal mode key n b) ∙ fine in
       let same-key : derivedKey C w (inodeAt w i) ≡ key = ap (derivedKey C w) q ∙ derived-same C v w (inodeAt v i) k in
       ap (λ (o : Outcome). step C w (unseal i n (o .buffer))) (was-done C v (seal i n b) done refl h)
       ∙ done-by C w (unseal i n sealed) again
-      ∙ ap (λ (x : Bytes). outcome done (C .unseal x n sealed) w) same-key
-      ∙ ap (λ (x : Bytes). outcome done x w) (law .unseal-seal key n b (derived-bytes C law v bytes (inodeAt v i) (bytes .nonces (i .0))) hb)
+      ∙ ap₂ (λ (m : ℕ) (x : Bytes). outcome done (C .unseal m x n sealed) w) (ap (λ (y : Inode). y .context .policy .contents) q) same-key
+      ∙ ap (λ (x : Bytes). outcome done x w) (law .unseal-seal mode key n b (derived-bytes C law v bytes (inodeAt v i) (bytes .nonces (i .0))) hb)
 
   -- seal leaves the volume as it was
   block-opens : (v : Volume) → Bytewise v → (i : InodeNumber) (n : ℕ) (b : Bytes) → ByteList b → (step C v (seal i n b)) .answer ≡ done

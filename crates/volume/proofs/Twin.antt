@@ -29,7 +29,7 @@ use Rattle.volume.specs.declared.Entry.{Entry}
 use Rattle.volume.specs.declared.Volume.{Volume}
 
 abbrev pub identity : Cipher
-identity = record { derive = λ k x. k; encryptName = λ k x. x; decryptName = λ k x. x; seal = λ k n x. x; unseal = λ k n x. x }
+identity = record { derive = λ k x. k; encryptName = λ k x. x; decryptName = λ k x. x; seal = λ m k n x. x; unseal = λ m k n x. x }
 
 -- a cipher with its laws, and the key of each descriptor in a list of requests
 pub record Setting : Type 0 where

@@ -42,7 +42,7 @@ module _ (S : Setting) {g : Names} (v : Volume) (ok : Inv S g v) where
       test _ tt refl λ h₃.
       test _ tt refl λ h₄.
       test _ tt (needed-twin S v ok (inodeAt v i)) λ key.
-      both-fine (record { answers = refl; buffers = ap zeros (S .lawful .length-seal _ n b); volumes = refl; inv = ok; right = tt })
+      both-fine (record { answers = refl; buffers = ap zeros (S .lawful .length-seal _ _ n b); volumes = refl; inv = ok; right = tt })
 
   pub unseal-twin : (i : InodeNumber) (n : ℕ) (b : Bytes) → Same S g v (unseal i n b) (unseal i n b)
   unfolding Same check effect blockCheck namedBy naming named blankBuffer blankBlock
@@ -52,4 +52,4 @@ module _ (S : Setting) {g : Names} (v : Volume) (ok : Inv S g v) where
       test _ tt refl λ h₃.
       test _ tt refl λ h₄.
       test _ tt (needed-twin S v ok (inodeAt v i)) λ key.
-      both-fine (record { answers = refl; buffers = ap zeros (S .lawful .length-unseal _ n b); volumes = refl; inv = ok; right = tt })
+      both-fine (record { answers = refl; buffers = ap zeros (S .lawful .length-unseal _ _ n b); volumes = refl; inv = ok; right = tt })

@@ -73,17 +73,20 @@ module _ (C : Cipher) where
         ∙ ap (C .encryptName (namesBy C v k i)) (padded-means (i .context .policy .flags) q n m M p)
 
   module _ (v : Volume) (s : Sound v) (i : InodeNumber) (number : ℕ) (b : Bytes) (k : ℕ) (w : KeyIn v (descriptorOf (inodeAt v i)) k) where
-    sealed : (step C v (seal i number b)) .answer ≡ done → (step C v (seal i number b)) .buffer ≡ C .seal (derivedBy C v k (inodeAt v i)) number b
+    abbrev mode : ℕ
+    mode = inodeAt v i .context .policy .contents
+
+    sealed : (step C v (seal i number b)) .answer ≡ done → (step C v (seal i number b)) .buffer ≡ C .seal mode (derivedBy C v k (inodeAt v i)) number b
     unfolding effect
     sealed h =
         ap (λ (o : Outcome). o .buffer) (was-done C v (seal i number b) done refl h)
-        ∙ ap (λ (x : Bytes). C .seal x number b) (derived v s (inodeAt v i) k w)
+        ∙ ap (λ (x : Bytes). C .seal mode x number b) (derived v s (inodeAt v i) k w)
 
-    opened : (step C v (unseal i number b)) .answer ≡ done → (step C v (unseal i number b)) .buffer ≡ C .unseal (derivedBy C v k (inodeAt v i)) number b
+    opened : (step C v (unseal i number b)) .answer ≡ done → (step C v (unseal i number b)) .buffer ≡ C .unseal mode (derivedBy C v k (inodeAt v i)) number b
     unfolding effect
     opened h =
         ap (λ (o : Outcome). o .buffer) (was-done C v (unseal i number b) done refl h)
-        ∙ ap (λ (x : Bytes). C .unseal x number b) (derived v s (inodeAt v i) k w)
+        ∙ ap (λ (x : Bytes). C .unseal mode x number b) (derived v s (inodeAt v i) k w)
 
 -- ---- the name that show answers
 

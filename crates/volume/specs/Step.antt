@@ -99,8 +99,8 @@ module _ (C : Cipher) where
       let dir = inodeAt v (x .parent) in
       let n = shownName C v dir e (nameOf x) in
       outcome (shown (record { parent = x .parent; inode = x .inode; kind = inodeAt v (x .inode) .kind; form = formIn v dir; len = length n })) (laidOver b n) v
-  effect v (seal i n b) = outcome done (C .seal (derivedKey C v (inodeAt v i)) n b) v
-  effect v (unseal i n b) = outcome done (C .unseal (derivedKey C v (inodeAt v i)) n b) v
+  effect v (seal i n b) = outcome done (C .seal (inodeAt v i .context .policy .contents) (derivedKey C v (inodeAt v i)) n b) v
+  effect v (unseal i n b) = outcome done (C .unseal (inodeAt v i .context .policy .contents) (derivedKey C v (inodeAt v i)) n b) v
 
 -- "A refusal returns its number alone and alters nothing."
 unfoldable pub settle : Volume → Bytes → Checked → Outcome → Outcome

@@ -47,11 +47,11 @@ pub record UnderKeys (C : Cipher) : Type 0 where
   -- "Padding is NULs. .. The key is the parent folder's."
   pub stored-encrypted : (v : Volume) → Sound v → (dir : Inode) (n : Bytes) (k q m : ℕ) → dir .encrypted ≡ true → KeyIn v (dir .context .policy .descriptor) k
       → Multiple (dir .context .policy .flags) q → PaddedTo q (length n) m → stored C v dir n ≡ C .encryptName (namesBy C v k dir) (n ++ zeros (m - length n))
-  -- "seal and open also change the lent block": under the inode's own derived key and the number given
+  -- "seal and open also change the lent block": by the contents mode of the inode's own policy, under its own derived key and the number given
   pub sealed : (v : Volume) → Sound v → (i : InodeNumber) (number : ℕ) (b : Bytes) (k : ℕ) → KeyIn v ((inodeAt v i) .context .policy .descriptor) k
-      → (step C v (seal i number b)) .answer ≡ done → (step C v (seal i number b)) .buffer ≡ C .seal (derivedBy C v k (inodeAt v i)) number b
+      → (step C v (seal i number b)) .answer ≡ done → (step C v (seal i number b)) .buffer ≡ C .seal ((inodeAt v i) .context .policy .contents) (derivedBy C v k (inodeAt v i)) number b
   pub opened : (v : Volume) → Sound v → (i : InodeNumber) (number : ℕ) (b : Bytes) (k : ℕ) → KeyIn v ((inodeAt v i) .context .policy .descriptor) k
-      → (step C v (unseal i number b)) .answer ≡ done → (step C v (unseal i number b)) .buffer ≡ C .unseal (derivedBy C v k (inodeAt v i)) number b
+      → (step C v (unseal i number b)) .answer ≡ done → (step C v (unseal i number b)) .buffer ≡ C .unseal ((inodeAt v i) .context .policy .contents) (derivedBy C v k (inodeAt v i)) number b
   -- "the form being plain, read with the key, or shown without it"
   pub shown-plain : (v : Volume) → Sound v → (e : EntryNumber) (b : Bytes) (s : ShownEntry) → (step C v (show e b)) .answer ≡ shown s
       → (dirOf v (e .0)) .encrypted ≡ false → ShownIn b ((step C v (show e b)) .buffer) s Plain (nameOf (entryAt v e))

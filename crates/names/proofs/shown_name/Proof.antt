@@ -1,9 +1,7 @@
 -- `shown_name`: plain, encoded or decrypted, by the directory and its key. Assumes nothing.
-use mathlib.Core.Path.{_≡_, refl, sym, _∙_}
-use native.Mathlib.Omega.{arith}
-use lib.ListN.{length}
+use mathlib.Core.Path.{sym, _∙_}
 use Rattle.lists.proofs.ByteStrings.{count-take}
-use Rattle.names.proofs.Reading.{names-key, shown-plain, shown-encoded, shown-decrypted}
+use Rattle.names.proofs.Reading.{names-key-fits, names-key, shown-plain, shown-encoded, shown-decrypted}
 use borrow.Author.Tests.{not-true, not-false}
 use Rattle.fscrypt.specs.Cipher.{fscrypt}
 use borrow.Author.Needs.{needs}
@@ -19,17 +17,26 @@ returns-2 c = shown-encoded fscrypt _ _ _ _ (c .before .before .before .before .
 derived-key-requires : tie.Need-derived-key-requires
 derived-key-requires c κs = sym (c .before .before .before .key-present .ensures) ∙ not-false _ (c .before .before .if2 .left)
 
+array-share-prefix-bytes : tie.Need-array-share-prefix-bytes
+array-share-prefix-bytes c =
+    let key = c .before .before .derived-key in
+    names-key-fits fscrypt _ _ (key .result) _ (key .ensures) (c .name-key-size .ensures .0)
+
 slice-aggregate-decrypt-name : tie.Need-slice-aggregate-decrypt-name
 slice-aggregate-decrypt-name c =
-    let n : length (c .before .before .derived-key .result) ≡ 64 = search needs in
-    count-take (c .before .name-key-size .result) (c .before .before .derived-key .result) (omega (arith, c .before .name-key-size .ensures .1))
+    let key = c .before .before .before .derived-key in
+    count-take _ _ (names-key-fits fscrypt _ _ (key .result) _ (key .ensures) (c .before .name-key-size .ensures .0))
 
 returns-3 : tie.Need-returns-3
 returns-3 c =
-    let d = c .before .before .before .derived-key in
-    let named = c .before .before .before .before .before .before .before .before .before .before .name-of in
-    shown-decrypted fscrypt _ _ _ _ (named .result) _ _ (not-false _ (c .before .before .before .before .before .before .before .before .if1 .left)) (sym (c .before .before .before .before .before .before .before .key-present .ensures) ∙ not-false _ (c .before .before .before .before .before .before .if2 .left)) (named .ensures)
-    (names-key fscrypt _ _ (d .result) _ (c .before .before .name-key-size .result) (d .ensures) (c .before .before .name-key-size .ensures .0) refl) (c .decrypt-name .ensures)
+    let stored = c .before .before .before .before .before .before .before .before .before .before .before .name-of in
+    let encrypted = c .before .before .before .before .before .before .before .before .before .if1 in
+    let present = c .before .before .before .before .before .before .before .before .key-present in
+    let held = c .before .before .before .before .before .before .before .if2 in
+    let key = c .before .before .before .before .derived-key in
+    let size = c .before .before .name-key-size in
+    shown-decrypted fscrypt _ _ _ _ (stored .result) _ _ (not-false _ (encrypted .left)) (sym (present .ensures) ∙ not-false _ (held .left)) (stored .ensures)
+    (names-key fscrypt _ _ (key .result) _ (key .ensures) (size .ensures .0)) (c .decrypt-name .ensures)
 
 pub shown-name-spec : {M : Type 1} → statement M
 shown-name-spec =
@@ -42,7 +49,7 @@ shown-name-spec =
     returns-2
     derived-key-requires
     (λ c κs. search needs)
-    (λ c. search needs)
+    array-share-prefix-bytes
     slice-aggregate-decrypt-name
     (λ c κs. search needs)
     returns-3)

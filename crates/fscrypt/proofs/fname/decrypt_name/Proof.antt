@@ -17,7 +17,7 @@ read-padded-requires : tie.Need-read-padded-requires
 read-padded-requires c κs = let d = c .before .before .before .decrypted in let g = name-sized (d .result) (d .ok) in omega (arith, cut-length g)
 
 returns : tie.Need-returns
-returns c = c .read-padded .ensures ∙ ap (readPadded (c .before .before .before .before .before .before .args .flags)) (c .before .before .before .before .decrypted .ensures .1)
+returns c = let start = c .before .before .before .before .before .before in c .read-padded .ensures ∙ ap (readPadded (start .args .flags)) (c .before .before .before .before .decrypted .ensures .1)
 
 pub decrypt-name-spec : {M : Type 1} → statement M
 decrypt-name-spec =

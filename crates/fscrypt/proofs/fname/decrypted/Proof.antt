@@ -15,9 +15,11 @@ slice-aggregate-decrypt-text : tie.Need-slice-aggregate-decrypt-text
 slice-aggregate-decrypt-text c = let s = c .before .before .before .before in sym (cut-length (name-sized (s .args .stored) (s .good .1 .0)))
 
 returns : tie.Need-returns
-returns c = let s = c .before .before .before .before .before .before in
-    let d = c .before .decrypt-text in
-    (refl, take-at (d .last .1 .0) _ (s .args .stored .len) (d .kept .1 .0 ∙ cut-length (name-sized (s .args .stored) (s .good .1 .0))) ∙ d .ensures)
+returns c =
+    let start = c .before .before .before .before .before .before in
+    let text = c .before .decrypt-text in
+    let sized = name-sized (start .args .stored) (start .good .1 .0) in
+    (refl, take-at (text .last .1 .0) _ (start .args .stored .len) (text .kept .1 .0 ∙ cut-length sized) ∙ text .ensures)
 
 pub decrypted-spec : {M : Type 1} → statement M
 decrypted-spec =

@@ -18,9 +18,11 @@ slice-aggregate-encrypt-text : tie.Need-slice-aggregate-encrypt-text
 slice-aggregate-encrypt-text c = let d = c .before .before .before .pad in sym (cut-length (name-sized (d .result) (d .ok)))
 
 returns : tie.Need-returns
-returns c = let s = c .before .before .before .before .before .before .before .before in
-    let x = c .before .before .before .before .before .pad in
-    encrypted-packed (now (s .args .key)) (s .args .flags) (now (s .args .name)) (x .result) _ (x .ensures) (ap (λ (b : Bytes). b ++ drop (x .result .len) (x .result .bytes)) (c .before .encrypt-text .ensures))
+returns c =
+    let start = c .before .before .before .before .before .before .before .before in
+    let pad = c .before .before .before .before .before .pad in
+    let rest = drop (pad .result .len) (pad .result .bytes) in
+    encrypted-packed (now (start .args .key)) (start .args .flags) (now (start .args .name)) (pad .result) _ (pad .ensures) (ap (λ (b : Bytes). b ++ rest) (c .before .encrypt-text .ensures))
 
 pub encrypt-name-spec : {M : Type 1} → statement M
 encrypt-name-spec =

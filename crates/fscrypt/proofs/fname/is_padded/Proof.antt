@@ -29,16 +29,21 @@ slice-aggregate-check-name : tie.Need-slice-aggregate-check-name
 slice-aggregate-check-name c = let s = c .before .before .before .before .before in sym (length-take-le (s .args .n) (now (s .args .b)) (omega (arith, firstAt-le isNul (now (s .args .b)))))
 
 returns-2 : tie.Need-returns-2
-returns-2 c = let s = c .before .before .before .before .before .before .before .before in
-    not-plain (s .args .flags) (s .args .n) (now (s .args .b)) (s .pre .0) _ _ _ (c .before .before .before .before .before .is-all-nul .ensures ∙ ap isAllNul (part-to-end (now (s .args .b)) (s .args .n))) (not-false _ (c .before .before .before .before .if1 .left)) (c .before .before .check-name .ensures) (c .enum-told2 .given .1)
+returns-2 c =
+    let start = c .before .before .before .before .before .before .before .before in
+    let rest = c .before .before .before .before .before .is-all-nul .ensures ∙ ap isAllNul (part-to-end (now (start .args .b)) (start .args .n)) in
+    not-plain (start .args .flags) (start .args .n) (now (start .args .b)) (start .pre .0) _ _ _ rest (not-false _ (c .before .before .before .before .if1 .left)) (c .before .before .check-name .ensures) (c .enum-told2 .given .1)
 
 padded-length-requires : tie.Need-padded-length-requires
-padded-length-requires c κs = let s = c .before .before .before .before .before .before .before .before in omega (arith, s .pre, firstAt-le isNul (now (s .args .b)))
+padded-length-requires c κs = let start = c .before .before .before .before .before .before .before .before in omega (arith, start .pre, firstAt-le isNul (now (start .args .b)))
 
 returns-3 : tie.Need-returns-3
-returns-3 c = let s = c .before .before .before .before .before .before .before .before .before in
-    ap (λ (k : ℕ). eqb k (length (now (s .args .b)))) (c .padded-length .ensures)
-    ∙ plain (s .args .flags) (s .args .n) (now (s .args .b)) (s .pre .0) _ _ (c .before .before .before .before .before .before .is-all-nul .ensures ∙ ap isAllNul (part-to-end (now (s .args .b)) (s .args .n))) (not-false _ (c .before .before .before .before .before .if1 .left)) (c .before .before .before .check-name .ensures) (c .before .enum-told .given .1)
+returns-3 c =
+    let start = c .before .before .before .before .before .before .before .before .before in
+    let all-nul = c .before .before .before .before .before .before .is-all-nul in
+    let rest = all-nul .ensures ∙ ap isAllNul (part-to-end (now (start .args .b)) (start .args .n)) in
+    ap (λ (k : ℕ). eqb k (length (now (start .args .b)))) (c .padded-length .ensures)
+    ∙ plain (start .args .flags) (start .args .n) (now (start .args .b)) (start .pre .0) _ _ rest (not-false _ (c .before .before .before .before .before .if1 .left)) (c .before .before .before .check-name .ensures) (c .before .enum-told .given .1)
 
 pub is-padded-spec : {M : Type 1} → statement M
 is-padded-spec =

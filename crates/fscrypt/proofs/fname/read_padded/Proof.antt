@@ -12,8 +12,9 @@ use Rattle.fscrypt.proofs.fname.read_padded.Statement.{statement}
 use Rattle.fscrypt.proofs.fname.read_padded.Tie as tie
 
 returns : tie.Need-returns
-returns c = let s = c .before .before .before .before .before .before in
-    read-refused (s .args .flags) (now (s .args .b)) _ (sym (c .before .before .before .is-padded .ensures) ∙ not-true _ (c .before .before .if1 .taken)) (c .pack .ensures)
+returns c =
+    let start = c .before .before .before .before .before .before in
+    read-refused (start .args .flags) (now (start .args .b)) _ (sym (c .before .before .before .is-padded .ensures) ∙ not-true _ (c .before .before .if1 .taken)) (c .pack .ensures)
 
 slice-aggregate-pack-2 : tie.Need-slice-aggregate-pack-2
 slice-aggregate-pack-2 c = let s = c .before .before .before .before .before in sym (length-take-le (c .before .before .before .first-nul .result) (now (s .args .b)) (omega (arith, firstAt-le isNul (now (s .args .b)))))
@@ -23,8 +24,9 @@ pack-requires-2 c κs = let s = c .before .before .before .before .before in
     omega (arith, s .pre, length-take-le (c .before .before .before .first-nul .result) (now (s .args .b)) (omega (arith, firstAt-le isNul (now (s .args .b)))), firstAt-le isNul (now (s .args .b)))
 
 returns-2 : tie.Need-returns-2
-returns-2 c = let s = c .before .before .before .before .before .before in
-    read-fine (s .args .flags) _ (now (s .args .b)) (c .before .before .before .before .first-nul .ensures) _ (sym (c .before .before .before .is-padded .ensures) ∙ not-false _ (c .before .before .if1 .left)) (c .pack2 .ensures)
+returns-2 c =
+    let start = c .before .before .before .before .before .before in
+    read-fine (start .args .flags) _ (now (start .args .b)) (c .before .before .before .before .first-nul .ensures) _ (sym (c .before .before .before .is-padded .ensures) ∙ not-false _ (c .before .before .if1 .left)) (c .pack2 .ensures)
 
 pub read-padded-spec : {M : Type 1} → statement M
 read-padded-spec =

@@ -10,4 +10,4 @@ unfolding derive
 returns c = search buffer-left
 
 pub derive-key-spec : {M : Type 1} → statement M
-derive-key-spec = tie.close (tie.spec (λ c. search needs) (λ c. search needs) (λ c κs. search needs) returns)
+derive-key-spec = tie.close (tie.spec (λ c. search needs) (λ c κs. search needs) (λ c. search needs) returns)

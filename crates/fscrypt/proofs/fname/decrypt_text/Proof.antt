@@ -1,9 +1,9 @@
--- `fscrypt::keysetup::decrypt_text` meets its contract: the text is as the cipher left it. Assumes nothing.
+-- `fscrypt::fname::decrypt_text` meets its contract: the text is as the cipher left it. Assumes nothing.
 use borrow.Author.Needs.{needs}
 use Rattle.ciphers.proofs.Laws.{buffer-left}
 use Rattle.fscrypt.specs.Cipher.{decryptName}
-use Rattle.fscrypt.proofs.keysetup.decrypt_text.Statement.{statement}
-use Rattle.fscrypt.proofs.keysetup.decrypt_text.Tie as tie
+use Rattle.fscrypt.proofs.fname.decrypt_text.Statement.{statement}
+use Rattle.fscrypt.proofs.fname.decrypt_text.Tie as tie
 
 returns : tie.Need-returns
 unfolding decryptName

@@ -1,9 +1,9 @@
--- `fscrypt::keysetup::encrypt_text` meets its contract: the text is as the cipher left it. Assumes nothing.
+-- `fscrypt::fname::encrypt_text` meets its contract: the text is as the cipher left it. Assumes nothing.
 use borrow.Author.Needs.{needs}
 use Rattle.ciphers.proofs.Laws.{buffer-left}
 use Rattle.fscrypt.specs.Cipher.{encryptName}
-use Rattle.fscrypt.proofs.keysetup.encrypt_text.Statement.{statement}
-use Rattle.fscrypt.proofs.keysetup.encrypt_text.Tie as tie
+use Rattle.fscrypt.proofs.fname.encrypt_text.Statement.{statement}
+use Rattle.fscrypt.proofs.fname.encrypt_text.Tie as tie
 
 returns : tie.Need-returns
 unfolding encryptName
