@@ -1,5 +1,5 @@
-// The fscrypt rules over the ciphers, in files as Linux's fs/crypto has them: derived keys (keysetup), contents (crypto), and names as they are stored, read
-// (fname) and shown (encode). The crates above call these once their own checks have passed, so some have a `requires`.
+// The fscrypt rules over the ciphers. As in Linux's fs/crypto: derived keys (keysetup), contents (crypto), and names as they are stored and read (fname). And
+// stored names as they are shown without their key (encode). The crates above call these once their own checks have passed, so some have a `requires`.
 pub mod crypto;
 pub mod encode;
 pub mod fname;

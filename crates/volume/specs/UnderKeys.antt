@@ -1,5 +1,5 @@
 -- What stands under a directory's key, said of the slot of the keyring that holds it: the name that the directory stores, the block that seal and open make of a
--- block, and the name that show answers. Another key, nonce, cut or form breaks this, also where code and definitions have it alike.
+-- block, and the name that show answers. Another mode, key, nonce, cut or form breaks this, also where code and definitions have it alike.
 -- Sentences in quotation marks are document 01's, in its words. Assumes nothing.
 use Prim.Native.Nat.{ℕ, _-_}
 use mathlib.Core.Path.{_≡_}
