@@ -1,4 +1,4 @@
--- Words and states of bytes: each transformation of FIPS 197 makes bytes of bytes, and so does Cipher under a key schedule of bytes.
+-- Words and states of bytes: each transformation of FIPS 197 makes bytes of bytes, and so do Cipher and InvCipher under a key schedule of bytes.
 -- Assumes nothing.
 use mathlib.Core.Path.{sym, subst}
 use mathlib.Core.List.{List}
@@ -6,7 +6,7 @@ use Prim.Native.Nat.{ℕ, zero, suc, _-_, _<_}
 use Rattle.lists.specs.Bytes.{ByteList}
 use Rattle.aes.specs.Words.{mixColumn, invMixColumn, subWord, invSubWord, addWord, wordAt}
 use Rattle.aes.specs.States.{subBytes, invSubBytes, shiftRows, invShiftRows, mixColumns, invMixColumns, addRoundKey, stateAt}
-use Rattle.aes.specs.Cipher.{roundKey, round, rounds, lastRound, cipher, invRound}
+use Rattle.aes.specs.Cipher.{roundKey, round, rounds, lastRound, cipher, invRound, invRounds, invLastRound, invCipher}
 use Rattle.aes.specs.declared.Word.{Word}
 use Rattle.aes.specs.declared.State.{State}
 use Rattle.field.proofs.Xor.{⊕-lt, xTimes-lt}
@@ -144,3 +144,13 @@ module _ (w : List ℕ) (bytes : ByteList w) where
   pub invRound-bytes : (i : ℕ) (s : State) → ByteState s → ByteState (invRound w i s)
   unfolding invRound
   invRound-bytes i s h = invMixColumns-bytes _ (addRoundKey-bytes _ _ (invSubBytes-bytes _ (invShiftRows-bytes _ h)) (roundKey-bytes i))
+
+  invRounds-bytes : (i : ℕ) (s : State) → ByteState s → ByteState (invRounds w i s)
+  unfolding invRounds
+  invRounds-bytes zero s h = h
+  invRounds-bytes (suc i) s h = invRounds-bytes i _ (invRound-bytes (suc i) s h)
+
+  pub invCipher-bytes : (nr : ℕ) (s : State) → ByteState s → ByteState (invCipher w nr s)
+  unfolding invCipher invLastRound
+  invCipher-bytes nr s h =
+      addRoundKey-bytes _ _ (invSubBytes-bytes _ (invShiftRows-bytes _ (invRounds-bytes (nr - 1) _ (addRoundKey-bytes _ _ h (roundKey-bytes nr))))) (roundKey-bytes 0)

@@ -21,7 +21,9 @@ unfolding expanded
 loop-holds c = (refl, refl, omega arith, omega arith, refl)
 
 loop-again : tie.Need-loop-again Inv-loop μ-loop
-loop-again c = (refl, refl, omega arith, omega arith, expand-turn _ _ _ _ _ _ _ (omega arith) (c .before .before .before .before .before .before .before .loop .inv .4) (c .before .before .before .before .next-word .ensures) (c .before .before .store .ensures))
+loop-again c =
+    let loop = c .before .before .before .before .before .before .before .loop in
+    (refl, refl, omega arith, omega arith, expand-turn _ _ _ _ _ _ _ (omega arith) (loop .inv .4) (c .before .before .before .before .next-word .ensures) (c .before .before .store .ensures))
 
 returns : tie.Need-returns Inv-loop μ-loop
 returns c = expand-end _ _ _ _ _ (c .before .loop .inv .0) (c .before .loop .inv .4) (omega arith)

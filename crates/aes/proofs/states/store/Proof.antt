@@ -6,7 +6,10 @@ use Rattle.aes.proofs.states.store.Tie as tie
 
 returns : tie.Need-returns
 returns c =
-    put-four _ _ _ _ _ _ _ (c .before .before .before .before .before .before .before .before .before .before .before .before .before .before .before .before .before .pre) (c .before .before .before .before .before .before .before .before .before .before .before .before .before .before .store .ensures) (c .before .before .before .before .before .before .before .before .before .before .store2 .ensures) (c .before .before .before .before .before .before .store3 .ensures) (c .before .before .store4 .ensures)
+    let third = c .before .before .before .before .before .before in
+    let second = third .before .before .before .before in
+    let first = second .before .before .before .before in
+    put-four _ _ _ _ _ _ _ (first .before .before .before .pre) (first .store .ensures) (second .store2 .ensures) (third .store3 .ensures) (c .before .before .store4 .ensures)
 
 pub store-spec : {M : Type 1} → statement M
 store-spec =
