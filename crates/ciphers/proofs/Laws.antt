@@ -1,5 +1,6 @@
--- The laws for callers of ciphers: what was encrypted is decrypted again (of XTS also the other way round), lengths are kept, and encrypted names and derived
--- keys are bytes, for every key and every buffer. Each entry is `answer` of a test of lengths, so each law is one on `answer`, given what the mode does. Assumes nothing.
+-- The laws for callers of ciphers: in CBC-CS3 and in XTS, encryption and decryption undo each other, lengths are kept, and names, encrypted or decrypted, and
+-- derived keys are bytes, for every key and every buffer. Each entry is `answer` of a test of lengths, so each law is one on `answer`, given what the mode does.
+-- Assumes nothing.
 use mathlib.Core.Path.{_≡_, refl, sym, ap, _∙_}
 use mathlib.Core.Bool.{Bool, true, false}
 use mathlib.Core.List.{List}
@@ -10,13 +11,15 @@ use Rattle.aes.specs.KeyExpansion.{roundsOf, keyExpansion}
 use Rattle.aes.proofs.ByteStates.{ByteState, cipher-bytes}
 use Rattle.lists.proofs.ByteStrings.{take-bytes, drop-bytes}
 use Rattle.aes.proofs.ScheduleBytes.{keyExpansion-bytes}
-use Rattle.modes.specs.Xts.{lowWord, numberBlock, xtsAesEnc, xtsAesDec}
+use Rattle.modes.specs.Blocks.{zeroBlock, numberBlock}
+use Rattle.modes.specs.Xts.{xtsAesEnc, xtsAesDec}
 use Rattle.modes.specs.Cts.{cbcCs3Encrypt, cbcCs3Decrypt}
 use Rattle.modes.specs.Ecb.{ecbBlocks}
 use Rattle.modes.proofs.EcbBlocks.{length-ecbBlocks, ecbBlocks-bytes}
-use Rattle.modes.proofs.XtsRoundTrip.{numberBlock-bytes, xts-dec-enc, xts-enc-dec, length-xtsAesEnc, length-xtsAesDec}
-use Rattle.modes.proofs.CtsRoundTrip.{cts-round-trip, length-cbcCs3Encrypt, length-cbcCs3Decrypt, cbcCs3Encrypt-bytes}
-use Rattle.ciphers.specs.Entries.{Outcome, outcome, answer, zeroBlock, ctsFits, ctsEncrypt, ctsDecrypt, xtsFits, tweakOf, xtsEncrypt, xtsDecrypt, ecbFits, ecbEncrypt}
+use Rattle.modes.proofs.Numbers.{zeroBlock-bytes, numberBlock-bytes}
+use Rattle.modes.proofs.XtsRoundTrip.{xts-dec-enc, xts-enc-dec, length-xtsAesEnc, length-xtsAesDec}
+use Rattle.modes.proofs.CtsRoundTrip.{cts-dec-enc, cts-enc-dec, length-cbcCs3Encrypt, length-cbcCs3Decrypt, cbcCs3Encrypt-bytes, cbcCs3Decrypt-bytes}
+use Rattle.ciphers.specs.Entries.{Outcome, outcome, answer, ctsFits, ctsEncrypt, ctsDecrypt, xtsFits, tweakOf, xtsEncrypt, xtsDecrypt, ecbFits, ecbEncrypt}
 use Rattle.ciphers.specs.declared.Status.{Status}
 use Rattle.ciphers.proofs.Fits.{cts-sizes, xts-sizes, ecb-sizes}
 
@@ -42,11 +45,7 @@ answer-back true new old fits back e h g =
     ap (λ (c : Bool). answer c (back new) new) (ap fits (h refl) ∙ e) ∙ ap (λ (l : List ℕ). answer true l new) (g refl)
 answer-back false new old fits back e h g = ap (λ (c : Bool). answer c (back old) old) e
 
-zero-bytes : ByteState zeroBlock
-unfolding numberBlock lowWord
-zero-bytes = numberBlock-bytes 0
-
--- ---- CBC-CS3: decryption answers as encryption did, and gives the text again
+-- ---- CBC-CS3: each of the two undoes the other, and answers as the other did
 
 module _ (key l : List ℕ) where
   encrypt-length : ctsFits (length key) (length l) ≡ true → length (cbcCs3Encrypt (keyExpansion key) (roundsOf (length key / 4)) zeroBlock l) ≡ length l
@@ -56,11 +55,12 @@ module _ (key l : List ℕ) where
   unfolding ctsEncrypt
   ctsEncrypt-length = answer-length (ctsFits (length key) (length l)) (cbcCs3Encrypt (keyExpansion key) (roundsOf (length key / 4)) zeroBlock l) l encrypt-length
 
+  decrypt-length : ctsFits (length key) (length l) ≡ true → length (cbcCs3Decrypt (keyExpansion key) (roundsOf (length key / 4)) zeroBlock l) ≡ length l
+  decrypt-length h = length-cbcCs3Decrypt (keyExpansion key) (roundsOf (length key / 4)) zeroBlock l (cts-sizes (length key) (length l) h .1)
+
   pub ctsDecrypt-length : length ((ctsDecrypt key l) .buffer) ≡ length l
   unfolding ctsDecrypt
-  ctsDecrypt-length =
-      answer-length (ctsFits (length key) (length l)) (cbcCs3Decrypt (keyExpansion key) (roundsOf (length key / 4)) zeroBlock l) l
-      (λ h. length-cbcCs3Decrypt (keyExpansion key) (roundsOf (length key / 4)) zeroBlock l (cts-sizes (length key) (length l) h .1))
+  ctsDecrypt-length = answer-length (ctsFits (length key) (length l)) (cbcCs3Decrypt (keyExpansion key) (roundsOf (length key / 4)) zeroBlock l) l decrypt-length
 
   module _ (hk : ByteList key) (hl : ByteList l) where
     pub ctsDecrypt-ctsEncrypt : ctsDecrypt key ((ctsEncrypt key l) .buffer) ≡ record { status = (ctsEncrypt key l) .status; buffer = l }
@@ -68,13 +68,26 @@ module _ (key l : List ℕ) where
     ctsDecrypt-ctsEncrypt =
         answer-back (ctsFits (length key) (length l)) (cbcCs3Encrypt (keyExpansion key) (roundsOf (length key / 4)) zeroBlock l) l (ctsFits (length key))
         (cbcCs3Decrypt (keyExpansion key) (roundsOf (length key / 4)) zeroBlock) refl encrypt-length
-        (λ h. cts-round-trip (keyExpansion key) (keyExpansion-bytes key hk) (roundsOf (length key / 4)) zeroBlock zero-bytes l hl (cts-sizes (length key) (length l) h .1))
+        (λ h. cts-dec-enc (keyExpansion key) (keyExpansion-bytes key hk) (roundsOf (length key / 4)) zeroBlock zeroBlock-bytes l hl (cts-sizes (length key) (length l) h .1))
+
+    pub ctsEncrypt-ctsDecrypt : ctsEncrypt key ((ctsDecrypt key l) .buffer) ≡ record { status = (ctsDecrypt key l) .status; buffer = l }
+    unfolding ctsEncrypt ctsDecrypt
+    ctsEncrypt-ctsDecrypt =
+        answer-back (ctsFits (length key) (length l)) (cbcCs3Decrypt (keyExpansion key) (roundsOf (length key / 4)) zeroBlock l) l (ctsFits (length key))
+        (cbcCs3Encrypt (keyExpansion key) (roundsOf (length key / 4)) zeroBlock) refl decrypt-length
+        (λ h. cts-enc-dec (keyExpansion key) (keyExpansion-bytes key hk) (roundsOf (length key / 4)) zeroBlock zeroBlock-bytes l hl (cts-sizes (length key) (length l) h .1))
 
     pub ctsEncrypt-bytes : ByteList ((ctsEncrypt key l) .buffer)
     unfolding ctsEncrypt
     ctsEncrypt-bytes =
         answer-bytes (ctsFits (length key) (length l)) (cbcCs3Encrypt (keyExpansion key) (roundsOf (length key / 4)) zeroBlock l) l
-        (λ h. cbcCs3Encrypt-bytes (keyExpansion key) (keyExpansion-bytes key hk) (roundsOf (length key / 4)) zeroBlock zero-bytes l hl) hl
+        (λ h. cbcCs3Encrypt-bytes (keyExpansion key) (keyExpansion-bytes key hk) (roundsOf (length key / 4)) zeroBlock zeroBlock-bytes l hl) hl
+
+    pub ctsDecrypt-bytes : ByteList ((ctsDecrypt key l) .buffer)
+    unfolding ctsDecrypt
+    ctsDecrypt-bytes =
+        answer-bytes (ctsFits (length key) (length l)) (cbcCs3Decrypt (keyExpansion key) (roundsOf (length key / 4)) zeroBlock l) l
+        (λ h. cbcCs3Decrypt-bytes (keyExpansion key) (keyExpansion-bytes key hk) (roundsOf (length key / 4)) zeroBlock zeroBlock-bytes l hl) hl
 
 -- ---- XTS-AES-256: each of the two undoes the other
 

@@ -11,12 +11,12 @@ use Rattle.aes.specs.Cipher.{invCipher}
 use Rattle.aes.specs.KeyExpansion.{roundsOf, keyExpansion}
 use Rattle.aes.proofs.Inverse.{invCipher-cipher}
 use Rattle.aes.proofs.ScheduleBytes.{keyExpansion-bytes}
-use Rattle.modes.specs.Xts.{numberBlock, xtsAesEnc, xtsAesDec}
+use Rattle.modes.specs.Blocks.{zeroBlock, numberBlock}
+use Rattle.modes.specs.Xts.{xtsAesEnc, xtsAesDec}
 use Rattle.modes.specs.Cts.{cbcCs3Encrypt, cbcCs3Decrypt}
 use Rattle.modes.specs.Ecb.{ecbBlocks}
-use Rattle.modes.proofs.XtsRoundTrip.{numberBlock-bytes}
-use Rattle.modes.proofs.Numbers.{number-own}
-use Rattle.ciphers.specs.Entries.{answer, zeroBlock, ctsFits, ctsEncrypt, ctsDecrypt, xtsFits, tweakOf, xtsEncrypt, xtsDecrypt, ecbFits, ecbEncrypt}
+use Rattle.modes.proofs.Numbers.{numberBlock-bytes, number-own}
+use Rattle.ciphers.specs.Entries.{answer, ctsFits, ctsEncrypt, ctsDecrypt, xtsFits, tweakOf, xtsEncrypt, xtsDecrypt, ecbFits, ecbEncrypt}
 use Rattle.ciphers.specs.Meanings.{CtsLengths, XtsLengths, EcbLengths, Exactly}
 use Rattle.ciphers.proofs.Fits.{cts-fits, xts-fits, ecb-fits}
 

@@ -14,8 +14,10 @@ use Rattle.aes.specs.Cipher.{roundKey, round, rounds, lastRound, cipher}
 use Rattle.aes.specs.KeyExpansion.{xPower, rcon, temp, nextWord, expanded, keyExpansion}
 use Rattle.modes.specs.Walk.{carried, walked}
 use Rattle.modes.specs.Ecb.{ecbBlocks}
-use Rattle.modes.specs.Cts.{cbcStep, lastTwo, cs3Encrypt, cbcCs3Encrypt}
-use Rattle.modes.specs.Xts.{lowWord, numberBlock, shiftedWord, timesAlpha, blockEnc, xtsAesEnc}
+use Rattle.modes.specs.Blocks.{lowWord, numberBlock}
+use Rattle.modes.specs.Cbc.{cbcStep}
+use Rattle.modes.specs.Cts.{lastTwo, cs3Encrypt, cbcCs3Encrypt}
+use Rattle.modes.specs.Xts.{shiftedWord, timesAlpha, blockEnc, xtsAesEnc}
 use Rattle.ciphers.specs.Entries.{outcome, ctsFits, ctsEncrypt, xtsFits, tweakOf, xtsEncrypt, ecbFits, ecbEncrypt}
 use Rattle.ciphers.specs.declared.Status.{Status}
 

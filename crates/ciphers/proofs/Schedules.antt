@@ -1,6 +1,6 @@
 -- Key schedules as code holds them, in an array of 240 bytes: what is done under the part of the array that is used is done under KeyExpansion's result.
 -- Assumes nothing.
-use mathlib.Core.Path.{_≡_, refl, sym, ap, ap₂, _∙_}
+use mathlib.Core.Path.{_≡_, sym, ap, ap₂, _∙_}
 use mathlib.Core.List.{List}
 use Prim.Native.Nat.{ℕ, _+_, _-_, _*_, _/_, _≤_}
 use native.Mathlib.Omega.{arith}
@@ -12,25 +12,21 @@ use Rattle.aes.specs.KeyExpansion.{roundsOf, keyExpansion}
 use Rattle.aes.specs.declared.State.{State}
 use Rattle.aes.proofs.Schedule.{length-keyExpansion}
 use Rattle.aes.proofs.PutAt.{take-putAt}
-use Rattle.modes.specs.Xts.{lowWord, numberBlock}
+use Rattle.modes.specs.Blocks.{zeroBlock, numberBlock}
 use Rattle.modes.specs.Ecb.{ecbBlocks}
-use Rattle.ciphers.specs.Entries.{zeroBlock, tweakOf}
+use Rattle.ciphers.specs.Entries.{tweakOf}
 
 pub schedule-by : (key w₀ w : List ℕ) → w ≡ putAt w₀ 0 (keyExpansion key) → take (16 * (length key / 4 + 7)) w ≡ keyExpansion key
 schedule-by key w₀ w h =
     let m : 16 * (length key / 4 + 7) ≡ 0 + length (keyExpansion key) = omega (arith, length-keyExpansion key) in
     ap (take (16 * (length key / 4 + 7))) h ∙ take-putAt w₀ 0 (keyExpansion key) (16 * (length key / 4 + 7)) m (omega arith)
 
-number-0 : numberBlock 0 ≡ zeroBlock
-unfolding numberBlock lowWord
-number-0 = refl
-
 -- a cipher over a key schedule, a number of rounds, a first block and a buffer
 pub under : (f : List ℕ → ℕ → State → List ℕ → List ℕ) (key w l l′ : List ℕ) (z : State) → l′ ≡ f (take (16 * (length key / 4 + 6 + 1)) w) (length key / 4 + 6) z l
-    → take (16 * (length key / 4 + 7)) w ≡ keyExpansion key → z ≡ numberBlock 0 → l′ ≡ f (keyExpansion key) (roundsOf (length key / 4)) zeroBlock l
+    → take (16 * (length key / 4 + 7)) w ≡ keyExpansion key → z ≡ zeroBlock → l′ ≡ f (keyExpansion key) (roundsOf (length key / 4)) zeroBlock l
 under f key w l l′ z h e g =
     let m : 16 * (length key / 4 + 6 + 1) ≡ 16 * (length key / 4 + 7) = omega arith in
-    h ∙ ap₂ (λ (x : List ℕ) (s : State). f x (length key / 4 + 6) s l) (ap (λ (k : ℕ). take k w) m ∙ e) (g ∙ number-0)
+    h ∙ ap₂ (λ (x : List ℕ) (s : State). f x (length key / 4 + 6) s l) (ap (λ (k : ℕ). take k w) m ∙ e) g
 
 pub under-128 : (key w l l′ : List ℕ) (m : ℕ) → length key ≡ 16 → l′ ≡ ecbBlocks (take 176 w) 10 l m → take (16 * (length key / 4 + 7)) w ≡ keyExpansion key
     → l′ ≡ ecbBlocks (keyExpansion key) 10 l m

@@ -10,7 +10,8 @@ use Rattle.errno.specs.declared.Errno.the-variants.{EINVAL}
 use Rattle.aes.specs.KeyExpansion.{roundsOf, keyExpansion}
 use Rattle.aes.specs.Cipher.{cipher}
 use Rattle.aes.specs.declared.State.{State}
-use Rattle.modes.specs.Xts.{zeroWord, numberBlock, xtsAesEnc, xtsAesDec}
+use Rattle.modes.specs.Blocks.{zeroBlock, numberBlock}
+use Rattle.modes.specs.Xts.{xtsAesEnc, xtsAesDec}
 use Rattle.modes.specs.Cts.{cbcCs3Encrypt, cbcCs3Decrypt}
 use Rattle.modes.specs.Ecb.{ecbBlocks}
 use Rattle.ciphers.specs.declared.Status.{Status}
@@ -33,9 +34,6 @@ answer false new old = outcome (record { errno = number EINVAL }) old
 -- a text of 16 to 4,096 bytes, and a key of 16 or 32
 unfoldable pub ctsFits : ℕ → ℕ → Bool
 ctsFits key text = (leb 16 text && leb text 4096) && (eqb key 16 || eqb key 32)
-
-abbrev pub zeroBlock : State
-zeroBlock = record { c0 = zeroWord; c1 = zeroWord; c2 = zeroWord; c3 = zeroWord }
 
 unfoldable pub ctsEncrypt : List ℕ → List ℕ → Outcome
 ctsEncrypt key text =

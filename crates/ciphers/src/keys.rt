@@ -3,6 +3,7 @@ use aes::State;
 use aes::cipher;
 use aes::key_expansion;
 use field::sbox;
+use modes::blocks;
 use modes::cts;
 use modes::ecb;
 use modes::xts;
@@ -10,10 +11,11 @@ ghost use mathlib.Core.Path.{_≡_};
 ghost use Prim.Native.Nat.{_+_, _*_, _/_, _≤_};
 ghost use lib.ListN.{length, take};
 ghost use Rattle.aes.specs.KeyExpansion.{KeySize, roundsOf, keyExpansion};
+ghost use Rattle.modes.specs.Blocks.{zeroBlock};
 ghost use Rattle.modes.specs.Cts.{cbcCs3Encrypt, cbcCs3Decrypt};
 ghost use Rattle.modes.specs.Xts.{xtsAesEnc, xtsAesDec};
 ghost use Rattle.modes.specs.Ecb.{ecbBlocks};
-ghost use Rattle.ciphers.specs.Entries.{ctsFits, xtsFits, ecbFits, zeroBlock, tweakOf};
+ghost use Rattle.ciphers.specs.Entries.{ctsFits, xtsFits, ecbFits, tweakOf};
 
 // Which lengths of a key and a text are taken.
 pub fn cts_fits(key: usize, text: usize) -> bool
@@ -65,7 +67,7 @@ pub fn cts_encrypt(key: &[u8], text: &mut [u8])
     let w = expanded_key(key);
     let nr = key.len() / 4 + 6;
     let end = 16 * (nr + 1);
-    cts::encrypt(&table, &w[..end], nr, xts::number_block(0), text);
+    cts::encrypt(&table, &w[..end], nr, blocks::zero_block(), text);
 }
 
 pub fn cts_decrypt(key: &[u8], text: &mut [u8])
@@ -76,7 +78,7 @@ pub fn cts_decrypt(key: &[u8], text: &mut [u8])
     let w = expanded_key(key);
     let nr = key.len() / 4 + 6;
     let end = 16 * (nr + 1);
-    cts::decrypt(&table, &w[..end], nr, xts::number_block(0), text);
+    cts::decrypt(&table, &w[..end], nr, blocks::zero_block(), text);
 }
 
 // The tweak of a block's first 16 bytes: the block's number, enciphered under the second half of the key.
@@ -86,7 +88,7 @@ fn tweak(key: &[u8], number: u64) -> State
 {
     let table = sbox::table();
     let w = expanded_key(&key[32..]);
-    cipher::cipher(&table, &w, 14, xts::number_block(number))
+    cipher::cipher(&table, &w, 14, blocks::number_block(number))
 }
 
 pub fn xts_encrypt(key: &[u8], number: u64, block: &mut [u8])

@@ -10,7 +10,7 @@ use Rattle.aes.specs.Bytes.{putAt, stateBytes}
 use Rattle.lists.specs.Bytes.{ByteList}
 use Rattle.aes.specs.States.{stateAt}
 use Rattle.aes.specs.declared.State.{State}
-use Rattle.modes.specs.Walk.{carried, walked}
+use Rattle.modes.specs.Walk.{carried, walked, Going}
 use Rattle.aes.proofs.Appended.{seam-at, put-seam, length-state}
 use Rattle.aes.proofs.ByteStates.{ByteState}
 use Rattle.lists.proofs.ByteStrings.{nil-bytes, append-bytes}
@@ -58,19 +58,15 @@ module _ (step : State → State → State) (next : State → State → State �
     pub turn-carried : next t (stateAt L (16 * i)) (step t (stateAt L (16 * i))) ≡ carried step next l c (i + 1)
     turn-carried = cc (same-block, same-step, carried-next i)
 
--- ---- a loop over the blocks: where it stands before block i, how it starts, a turn, and its end
+-- ---- a loop over the blocks: how it starts, a turn, and its end
 
 module _ (step : State → State → State) (next : State → State → State → State) (l₀ : List ℕ) (c : State) where
-  pub record Going (i : ℕ) (l : List ℕ) (t : State) : Type 0 where
-    pub list : l ≡ walked step next l₀ c i ++ drop (16 * i) l₀
-    pub carry : t ≡ carried step next l₀ c i
-
-  pub going-start : Going 0 l₀ c
+  pub going-start : Going step next l₀ c 0 l₀ c
   unfolding walked carried
   going-start = record { list = refl; carry = refl }
 
-  pub going-turn : (i : ℕ) (l l′ : List ℕ) (t t′ p o : State) → Going i l t → p ≡ stateAt l (16 * i) → o ≡ step t p → l′ ≡ putAt l (16 * i) (stateBytes o)
-      → t′ ≡ next t p o → Going (i + 1) l′ t′
+  pub going-turn : (i : ℕ) (l l′ : List ℕ) (t t′ p o : State) → Going step next l₀ c i l t → p ≡ stateAt l (16 * i) → o ≡ step t p → l′ ≡ putAt l (16 * i) (stateBytes o)
+      → t′ ≡ next t p o → Going step next l₀ c (i + 1) l′ t′
   going-turn i l l′ t t′ p o g ep eo el et =
       let eo′ : o ≡ step t (stateAt l (16 * i)) = eo ∙ ap (step t) ep in
       record {
@@ -78,6 +74,6 @@ module _ (step : State → State → State) (next : State → State → State �
         carry = et ∙ ap₂ (next t) ep eo′ ∙ turn-carried step next l₀ c i l t (g .list) (g .carry);
       }
 
-  pub going-end : (i : ℕ) (l : List ℕ) (t : State) → Going i l t → length l₀ ≤ 16 * i → l ≡ walked step next l₀ c i
+  pub going-end : (i : ℕ) (l : List ℕ) (t : State) → Going step next l₀ c i l t → length l₀ ≤ 16 * i → l ≡ walked step next l₀ c i
   going-end i l t g h =
       g .list ∙ ap (λ (x : List ℕ). walked step next l₀ c i ++ x) (drop-of-length-le l₀ h) ∙ append-nil (walked step next l₀ c i)

@@ -13,11 +13,12 @@ use Rattle.aes.specs.Bytes.{stateBytes}
 use Rattle.aes.specs.declared.State.{State}
 use Rattle.aes.proofs.Appended.{length-state}
 use Rattle.modes.specs.Walk.{carried, walked}
-use Rattle.modes.specs.Cts.{cbcStep, cbcNext, lastTwo, cs3Encrypt, cbcCs3Encrypt}
+use Rattle.modes.specs.Cbc.{cbcStep, cbcNext}
+use Rattle.modes.specs.Cts.{lastTwo, cs3Encrypt, cbcCs3Encrypt}
 use Rattle.modes.specs.Meanings.{lastTwoSwapped, cbcPadded}
 use Rattle.modes.proofs.BlockLoop.{length-walked}
-use Rattle.modes.proofs.Blocks.{padded-at}
-use Rattle.modes.proofs.CtsSteal.{encrypted-long}
+use Rattle.modes.proofs.ListBlocks.{padded-at}
+use Rattle.modes.proofs.CtsSteal.{long, cs3, cs3-long}
 
 -- ---- a walk over another list of the same blocks
 
@@ -90,5 +91,6 @@ module _ (w : List ℕ) (nr : ℕ) (iv : State) (l : List ℕ) (m : ℕ) where
 
 pub stolen : (w : List ℕ) (nr : ℕ) (iv : State) (l : List ℕ) → 16 < length l
     → cbcCs3Encrypt w nr iv l ≡ take (length l) (lastTwoSwapped (cbcPadded w nr iv l ((length l + 15) / 16)) ((length l + 15) / 16))
+unfolding cbcCs3Encrypt cs3Encrypt cs3 long
 stolen w nr iv l h =
-    encrypted-long w nr iv l h ∙ stolen-swapped w nr iv l ((length l - 17) / 16) ((length l + 15) / 16) (omega arith) (omega arith)
+    cs3-long (cbcStep w nr) cbcNext (lastTwo w nr) iv l h ∙ stolen-swapped w nr iv l ((length l - 17) / 16) ((length l + 15) / 16) (omega arith) (omega arith)

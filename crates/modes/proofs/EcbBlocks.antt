@@ -11,8 +11,8 @@ use Rattle.aes.specs.Cipher.{cipher}
 use Rattle.aes.specs.declared.State.{State}
 use Rattle.aes.proofs.ByteStates.{cipher-bytes}
 use Rattle.aes.proofs.ScheduleBytes.{stateAt-bytes}
+use Rattle.modes.specs.Blocks.{zeroBlock}
 use Rattle.modes.specs.Walk.{walked}
-use Rattle.modes.specs.Xts.{numberBlock}
 use Rattle.modes.specs.Ecb.{ecbBlocks}
 use Rattle.modes.proofs.BlockLoop.{length-walked, walked-bytes}
 
@@ -29,9 +29,9 @@ module _ (w : List ℕ) (nr : ℕ) (l : List ℕ) where
   ecb-walked c (suc m) = ap (λ (x : List ℕ). x ++ stateBytes (cipher w nr (stateAt l (16 * m)))) (ecb-walked c m)
 
   pub length-ecbBlocks : (m : ℕ) → length (ecbBlocks w nr l m) ≡ 16 * m
-  length-ecbBlocks m = ap length (ecb-walked (numberBlock 0) m) ∙ length-walked (ecbStep w nr) ecbNext l (numberBlock 0) m
+  length-ecbBlocks m = ap length (ecb-walked zeroBlock m) ∙ length-walked (ecbStep w nr) ecbNext l zeroBlock m
 
   pub ecbBlocks-bytes : ByteList w → ByteList l → (m : ℕ) → ByteList (ecbBlocks w nr l m)
   ecbBlocks-bytes hw hl m =
-      subst (λ (x : List ℕ). ByteList x) (sym (ecb-walked (numberBlock 0) m))
-      (walked-bytes (ecbStep w nr) ecbNext l (numberBlock 0) (λ i. cipher-bytes w hw nr _ (stateAt-bytes l hl (16 * i))) m)
+      subst (λ (x : List ℕ). ByteList x) (sym (ecb-walked zeroBlock m))
+      (walked-bytes (ecbStep w nr) ecbNext l zeroBlock (λ i. cipher-bytes w hw nr _ (stateAt-bytes l hl (16 * i))) m)

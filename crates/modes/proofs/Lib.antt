@@ -7,6 +7,7 @@ pub mod Meant
 mod Alpha
 mod CtsSwapped
 mod BlockLoop
-mod Blocks
+mod ListBlocks
 mod RoundTrip
+mod CbcRoundTrip
 mod CtsSteal

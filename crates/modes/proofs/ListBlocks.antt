@@ -1,24 +1,29 @@
 -- Blocks of a list, also one that the list ends in the middle of. Assumes nothing.
-use mathlib.Core.Path.{_≡_, refl, sym, ap, ap₂, _∙_}
-use mathlib.Core.List.{List, _++_}
-use Prim.Native.Nat.{ℕ, suc, _+_, _-_, _≤_, _<_}
+use mathlib.Core.Path.{_≡_, refl, sym, ap, ap₂, _∙_, subst}
+use mathlib.Core.List.{List, [], _∷_, _++_, zipWith, append-assoc}
+use Prim.Native.Nat.{ℕ, zero, suc, _+_, _-_, _≤_, _<_}
 use native.Mathlib.Decide.{decLt}
 use native.Mathlib.Numerals.{add-one, add-two, add-three}
 use native.Mathlib.Omega.{arith}
-use lib.ListN.{length, take, drop, getD, replicate, length-append, length-take, length-drop, List·getD-append, List·getD-eq-default}
-use lib.Seq.{take-at, take-add, take-take, drop-append-le, getD-take, drop-cons, drop-drop, getD-append-add}
+use lib.ListN.{length, take, drop, getD, replicate, length-append, length-take, length-drop, take-append-drop, List·getD-append, List·getD-eq-default}
+use lib.Seq.{take-at, drop-at, take-all, take-add, drop-append-le, drop-cons, drop-drop, getD-drop, getD-append-add}
 use Rattle.lists.proofs.Tables.{getD-any}
 use Rattle.lists.proofs.Slots.{all-same}
+use Rattle.lists.specs.Bytes.{ByteList}
+use Rattle.lists.proofs.ByteStrings.{append-bytes, drop-bytes}
 use Rattle.aes.specs.Bytes.{wordBytes, stateBytes}
 use Rattle.field.specs.Field.{_⊕_}
 use Rattle.aes.specs.Words.{wordAt, addWord}
 use Rattle.aes.specs.States.{addRoundKey, stateAt}
+use Rattle.modes.specs.Blocks.{zeroBlock}
 use Rattle.modes.specs.Cts.{filledWord, filled}
-use Rattle.field.proofs.Xor.{zero-⊕}
+use Rattle.field.proofs.Xor.{zero-⊕, ⊕-self}
 use Rattle.aes.specs.declared.Word.{Word}
 use Rattle.aes.specs.declared.State.{State}
 use Rattle.aes.proofs.MixColumns.{word-eq}
 use Rattle.aes.proofs.Appended.{front, length-state}
+use Rattle.aes.proofs.ByteStates.{ByteState}
+use Rattle.aes.proofs.ScheduleBytes.{stateAt-bytes, stateBytes-bytes}
 
 -- ---- blocks of a list
 
@@ -88,60 +93,106 @@ pub padded-at : (l : List ℕ) (k n : ℕ) → stateAt (l ++ replicate k 0) n �
 unfolding stateAt wordAt
 padded-at l k n = simp padded
 
-pub take-last : (l : List ℕ) (n : ℕ) → n ≤ length l → length l ≤ n + 16 → take (length l - n) (stateBytes (stateAt l n)) ≡ drop n l
-take-last l n h g =
-    let P : List ℕ = l ++ replicate 16 0 in
-    let k : n + 16 ≤ length P = simp length-append (omega arith) in
-    let d : length (drop n l) ≡ length l - n = length-drop n l in
-    ap (λ (s : State). take (length l - n) (stateBytes s)) (sym (padded-at l 16 n)) ∙ ap (take (length l - n)) (sym (take-state P n k))
-    ∙ take-take (length l - n) 16 (drop n P) (omega arith) ∙ ap (take (length l - n)) (drop-append-le n l (replicate 16 0) h)
-    ∙ take-at (drop n l) (replicate 16 0) (length l - n) d
-
--- a byte that was stolen, or that was added to 0 and so is there again
-byte-filled : (A B l : List ℕ) (n d : ℕ) → length A ≡ n → length l ≡ n + d → (k j : ℕ) → k ≡ n + j → j < length B
-    → getD (A ++ take d B) k (getD l k 0 ⊕ getD B j 0) ≡ getD B j 0
-byte-filled A B l n d ea el k j e h =
-    let m : length A + j ≡ k = omega arith in
-    ap (λ (i : ℕ). getD (A ++ take d B) i (getD l k 0 ⊕ getD B j 0)) (sym m) ∙ getD-append-add A (take d B) j (getD l k 0 ⊕ getD B j 0)
-    ∙ elim (decLt j d) [
-      | yes g ↦ getD-take d B j (getD l k 0 ⊕ getD B j 0) g ∙ getD-any B j (getD l k 0 ⊕ getD B j 0) 0 h
-      | no g ↦
-          let z : length l ≤ k = omega (arith, g) in
-          let y : length (take d B) ≤ j = simp length-take (omega (arith, g)) in
-          List·getD-eq-default (take d B) (getD l k 0 ⊕ getD B j 0) y ∙ ap (λ (x : ℕ). x ⊕ getD B j 0) (List·getD-eq-default l 0 z) ∙ zero-⊕ (getD B j 0)
-    ]
+-- ---- a block that a list ends in the middle of, filled up with the end of another
 
 -- a state by its words
 state-eq : {a a′ b b′ c c′ d d′ : Word} → a ≡ a′ → b ≡ b′ → c ≡ c′ → d ≡ d′
     → _≡_ {A = State} (record { c0 = a; c1 = b; c2 = c; c3 = d }) (record { c0 = a′; c1 = b′; c2 = c′; c3 = d′ })
 state-eq p q r s = cc
 
-word-again : (A B l : List ℕ) (n d : ℕ) → length A ≡ n → length l ≡ n + d → (k j : ℕ) → k ≡ n + j → j + 4 ≤ length B
-    → filledWord (A ++ take d B) k (addWord (wordAt l k) (wordAt B j)) ≡ wordAt B j
-unfolding filledWord addWord wordAt
-word-again A B l n d ea el k j e h =
-    word-eq (byte-filled A B l n d ea el k j e (omega arith)) (byte-filled A B l n d ea el (k + 1) (j + 1) (omega arith) (omega arith))
-    (byte-filled A B l n d ea el (k + 2) (j + 2) (omega arith) (omega arith)) (byte-filled A B l n d ea el (k + 3) (j + 3) (omega arith) (omega arith))
+-- a byte of the list l or, past its end, one of Z: it is read in l with the end of Z after it
+byte-filled : (l Z : List ℕ) (n d : ℕ) → length l ≡ n + d → (k j : ℕ) → k ≡ n + j → getD l k (getD Z j 0) ≡ getD (l ++ drop d Z) k 0
+byte-filled l Z n d e k j h =
+    elim (decLt k (length l)) [
+      | yes g ↦ getD-any l k (getD Z j 0) 0 g ∙ sym (List·getD-append l (drop d Z) 0 k g)
+      | no g ↦
+          let past : length l ≤ k = omega (arith, g) in
+          let i : length l + (k - length l) ≡ k = omega (arith, g) in
+          let i′ : d + (k - length l) ≡ j = omega (arith, g) in
+          List·getD-eq-default l (getD Z j 0) past ∙ ap (λ (x : ℕ). getD Z x 0) (sym i′) ∙ sym (getD-drop d Z (k - length l) 0)
+          ∙ sym (getD-append-add l (drop d Z) (k - length l) 0) ∙ ap (λ (x : ℕ). getD (l ++ drop d Z) x 0) i
+    ]
 
--- the block that was stolen from, put together again, word by word
-word-filled : (A B l : List ℕ) (n d : ℕ) → length A ≡ n → length l ≡ n + d → (k j : ℕ) (v : Word) → k ≡ n + j → j + 4 ≤ length B → v ≡ wordAt B j
-    → filledWord (A ++ take d B) k (addWord (wordAt l k) v) ≡ v
-word-filled A B l n d ea el k j v e h ev = ap (λ (u : Word). filledWord (A ++ take d B) k (addWord (wordAt l k) u)) ev ∙ same ∙ sym ev
+word-filled : (l Z : List ℕ) (n d : ℕ) → length l ≡ n + d → (k j : ℕ) → k ≡ n + j → filledWord l k (wordAt Z j) ≡ wordAt (l ++ drop d Z) k
+unfolding filledWord wordAt
+word-filled l Z n d e k j h =
+    word-eq (byte-filled l Z n d e k j h) (byte-filled l Z n d e (k + 1) (j + 1) (omega arith)) (byte-filled l Z n d e (k + 2) (j + 2) (omega arith))
+    (byte-filled l Z n d e (k + 3) (j + 3) (omega arith))
+
+filled-at : (l : List ℕ) (z : State) (n d : ℕ) → length l ≡ n + d → filled l n z ≡ stateAt (l ++ drop d (stateBytes z)) n
+unfolding filled stateAt wordAt stateBytes
+filled-at l z n d e =
+    let word = word-filled l (stateBytes z) n d e in
+    state-eq (word n 0 (omega arith)) (word (n + 4) 4 refl) (word (n + 8) 8 refl) (word (n + 12) 12 refl)
+
+-- zeros are what a block is read with
+pub zero-filled : (l : List ℕ) (n : ℕ) → filled l n zeroBlock ≡ stateAt l n
+unfolding stateAt wordAt filled filledWord
+zero-filled l n = refl
+
+-- its bytes: those that are left of the list, and then the other block's
+module _ (l : List ℕ) (z : State) (n d : ℕ) (e : length l ≡ n + d) (h : d ≤ 16) where
+  filled-bytes : stateBytes (filled l n z) ≡ drop n l ++ drop d (stateBytes z)
+  filled-bytes =
+      let Z : List ℕ = drop d (stateBytes z) in
+      let k : n + 16 ≤ length (l ++ Z) = simp (length-append, length-drop) (omega (arith, length-state z)) in
+      let k′ : length (drop n l ++ Z) ≤ 16 = simp (length-append, length-drop) (omega (arith, length-state z)) in
+      ap stateBytes (filled-at l z n d e) ∙ sym (take-state (l ++ Z) n k) ∙ ap (take 16) (drop-append-le n l Z (omega arith)) ∙ take-all 16 (drop n l ++ Z) k′
+
+  left : length (drop n l) ≡ d
+  left = simp length-drop (omega arith)
+
+  pub filled-front : take d (stateBytes (filled l n z)) ≡ drop n l
+  filled-front = ap (take d) filled-bytes ∙ take-at (drop n l) (drop d (stateBytes z)) d left
+
+  pub filled-end : drop d (stateBytes (filled l n z)) ≡ drop d (stateBytes z)
+  filled-end = ap (drop d) filled-bytes ∙ drop-at (drop n l) (drop d (stateBytes z)) d left
+
+-- a block that was cut is whole again where the other one ends as it did
+pub filled-again : (A : List ℕ) (s z : State) (n d : ℕ) → length A ≡ n → d ≤ 16 → drop d (stateBytes s) ≡ drop d (stateBytes z) → filled (A ++ take d (stateBytes s)) n z ≡ s
+filled-again A s z n d e h g =
+    let S : List ℕ = stateBytes s in
+    let k : length (A ++ take d S) ≡ n + d = simp (length-append, length-take) (omega (arith, length-state s)) in
+    filled-at (A ++ take d S) z n d k ∙ ap (λ (x : List ℕ). stateAt ((A ++ take d S) ++ x) n) (sym g)
+    ∙ ap (λ (x : List ℕ). stateAt x n) (append-assoc A (take d S) (drop d S) ∙ ap (λ (x : List ℕ). A ++ x) (take-append-drop d S)) ∙ state-after A s n e
+
+pub filled-state-bytes : (l : List ℕ) → ByteList l → (z : State) → ByteState z → (n : ℕ) → n ≤ length l → ByteState (filled l n z)
+filled-state-bytes l hl z hz n h =
+    let d : ℕ = length l - n in
+    let Z : List ℕ = drop d (stateBytes z) in
+    subst (λ (s : State). ByteState s) (sym (filled-at l z n d (omega arith)))
+    (stateAt-bytes (l ++ Z) (append-bytes l Z hl (drop-bytes d (stateBytes z) (stateBytes-bytes z hz))) n)
+
+-- ---- the end of a sum of two blocks is made of theirs
+
+added-bytes : (s k : State) → stateBytes (addRoundKey s k) ≡ zipWith _⊕_ (stateBytes s) (stateBytes k)
+unfolding stateBytes addRoundKey addWord zipWith
+added-bytes s k = refl
+
+drop-sums : (d : ℕ) (x y : List ℕ) → drop d (zipWith _⊕_ x y) ≡ zipWith _⊕_ (drop d x) (drop d y)
+unfolding zipWith
+drop-sums zero x y = refl
+drop-sums (suc d) [] y = refl
+drop-sums (suc d) (a ∷ x) [] = sym (none (drop d x))
   where
-    same : filledWord (A ++ take d B) k (addWord (wordAt l k) (wordAt B j)) ≡ wordAt B j
-    same = word-again A B l n d ea el k j e h
+    none : (l : List ℕ) → zipWith _⊕_ l [] ≡ []
+    none [] = refl
+    none (a ∷ l) = refl
+drop-sums (suc d) (a ∷ x) (b ∷ y) = drop-sums d x y
 
-state-words : (a : State) → (a .c0 ≡ wordAt (stateBytes a) 0) × (a .c1 ≡ wordAt (stateBytes a) 4) × (a .c2 ≡ wordAt (stateBytes a) 8) × (a .c3 ≡ wordAt (stateBytes a) 12)
-unfolding wordAt stateBytes
-state-words a = (refl, refl, refl, refl)
+pub end-added : (s s′ k k′ : State) (d : ℕ) → drop d (stateBytes s) ≡ drop d (stateBytes s′) → drop d (stateBytes k) ≡ drop d (stateBytes k′)
+    → drop d (stateBytes (addRoundKey s k)) ≡ drop d (stateBytes (addRoundKey s′ k′))
+end-added s s′ k k′ d e f =
+    ends s k ∙ ap₂ (zipWith _⊕_) e f ∙ sym (ends s′ k′)
+  where
+    ends : (u v : State) → drop d (stateBytes (addRoundKey u v)) ≡ zipWith _⊕_ (drop d (stateBytes u)) (drop d (stateBytes v))
+    ends u v = ap (drop d) (added-bytes u v) ∙ drop-sums d (stateBytes u) (stateBytes v)
 
-pub filled-again : (A l : List ℕ) (a : State) (n d : ℕ) → length A ≡ n → length l ≡ n + d → filled (A ++ take d (stateBytes a)) n (addRoundKey (stateAt l n) a) ≡ a
-unfolding filled addRoundKey stateAt
-filled-again A l a n d ea el =
-    let B : List ℕ = stateBytes a in
-    let h₀ : 0 + 4 ≤ length B = omega (arith, length-state a) in
-    let h₁ : 4 + 4 ≤ length B = omega (arith, length-state a) in
-    let h₂ : 8 + 4 ≤ length B = omega (arith, length-state a) in
-    let h₃ : 12 + 4 ≤ length B = omega (arith, length-state a) in
-    state-eq (word-filled A B l n d ea el n 0 (a .c0) (omega arith) h₀ (state-words a .0)) (word-filled A B l n d ea el (n + 4) 4 (a .c1) refl h₁ (state-words a .1))
-    (word-filled A B l n d ea el (n + 8) 8 (a .c2) refl h₂ (state-words a .2)) (word-filled A B l n d ea el (n + 12) 12 (a .c3) refl h₃ (state-words a .3))
+-- zeros add nothing, and a block added to itself is zeros
+pub added-to-zero : (s : State) → addRoundKey zeroBlock s ≡ s
+unfolding addRoundKey addWord
+added-to-zero s = simp zero-⊕
+
+pub added-to-itself : (s : State) → addRoundKey s s ≡ zeroBlock
+unfolding addRoundKey addWord
+added-to-itself s = simp ⊕-self

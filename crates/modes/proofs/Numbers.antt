@@ -3,12 +3,14 @@ use mathlib.Core.Path.{_≡_, refl, sym, ap}
 use Prim.Native.Nat.{ℕ, zero, suc, _+_, _*_, _/_, _%_, _^_, _<_}
 use native.Mathlib.Nat.{div-div-eq-div-mul}
 use native.Mathlib.Omega.{arith}
+use lib.Dec.{lit<}
 use lib.ListN.{drop, getD}
 use Rattle.lists.specs.Bytes.{zeros}
 use Rattle.aes.specs.Bytes.{stateBytes}
 use Rattle.aes.specs.declared.Word.{Word}
 use Rattle.aes.specs.declared.State.{State}
-use Rattle.modes.specs.Xts.{lowWord, numberBlock}
+use Rattle.aes.proofs.ByteStates.{ByteWord, ByteState}
+use Rattle.modes.specs.Blocks.{zeroWord, zeroBlock, lowWord, numberBlock}
 
 -- ---- its bytes
 
@@ -30,6 +32,20 @@ number-byte n (suc (suc (suc (suc (suc (suc (suc (suc i)))))))) h = absurd (omeg
 pub number-zeros : (n : ℕ) → drop 8 (stateBytes (numberBlock n)) ≡ zeros 8
 unfolding stateBytes numberBlock zeros
 number-zeros n = refl
+
+zeroWord-bytes : ByteWord zeroWord
+zeroWord-bytes = record { r0 = lit< tt; r1 = lit< tt; r2 = lit< tt; r3 = lit< tt }
+
+pub zeroBlock-bytes : ByteState zeroBlock
+zeroBlock-bytes = record { c0 = zeroWord-bytes; c1 = zeroWord-bytes; c2 = zeroWord-bytes; c3 = zeroWord-bytes }
+
+lowWord-bytes : (n : ℕ) → ByteWord (lowWord n)
+unfolding lowWord
+lowWord-bytes n = record { r0 = omega arith; r1 = omega arith; r2 = omega arith; r3 = omega arith }
+
+pub numberBlock-bytes : (n : ℕ) → ByteState (numberBlock n)
+unfolding numberBlock
+numberBlock-bytes n = record { c0 = lowWord-bytes n; c1 = lowWord-bytes _; c2 = zeroWord-bytes; c3 = zeroWord-bytes }
 
 -- ---- the number again
 

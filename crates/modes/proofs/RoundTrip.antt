@@ -12,7 +12,7 @@ use Rattle.aes.specs.Bytes.{stateBytes}
 use Rattle.aes.specs.declared.State.{State}
 use Rattle.modes.specs.Walk.{carried, walked}
 use Rattle.modes.proofs.BlockLoop.{length-walked}
-use Rattle.modes.proofs.Blocks.{take-more, state-front, state-after}
+use Rattle.modes.proofs.ListBlocks.{take-more, state-front, state-after}
 
 -- ---- the walk back
 

@@ -3,7 +3,6 @@ use mathlib.Core.Path.{_≡_, refl, ap, _∙_}
 use mathlib.Core.List.{List}
 use Prim.Native.Nat.{ℕ, zero, suc, _*_, _/_, _<_}
 use native.Mathlib.Omega.{arith}
-use lib.Dec.{lit<}
 use lib.ListN.{length}
 use Rattle.aes.specs.States.{addRoundKey, stateAt}
 use Rattle.lists.specs.Bytes.{ByteList}
@@ -15,7 +14,7 @@ use Rattle.aes.proofs.ByteStates.{ByteWord, ByteState, addRoundKey-bytes}
 use Rattle.aes.proofs.Inverse.{added-twice, invCipher-cipher, cipher-invCipher}
 use Rattle.aes.proofs.ScheduleBytes.{stateAt-bytes}
 use Rattle.modes.specs.Walk.{carried, walked}
-use Rattle.modes.specs.Xts.{blockEnc, blockDec, nextTweak, timesAlpha, shiftedWord, xtsAesEnc, xtsAesDec, lowWord, numberBlock}
+use Rattle.modes.specs.Xts.{blockEnc, blockDec, nextTweak, timesAlpha, shiftedWord, xtsAesEnc, xtsAesDec}
 use Rattle.modes.proofs.BlockLoop.{length-walked}
 use Rattle.modes.proofs.RoundTrip.{unwalked}
 
@@ -47,20 +46,6 @@ timesAlpha-bytes t h =
       c1 = shiftedWord-bytes _ _ (h .c1) (over-lt _ (h .c0 .r3));
       c2 = shiftedWord-bytes _ _ (h .c2) (over-lt _ (h .c1 .r3));
       c3 = shiftedWord-bytes _ _ (h .c3) (over-lt _ (h .c2 .r3));
-    }
-
-lowWord-bytes : (n : ℕ) → ByteWord (lowWord n)
-unfolding lowWord
-lowWord-bytes n = record { r0 = omega arith; r1 = omega arith; r2 = omega arith; r3 = omega arith }
-
-pub numberBlock-bytes : (n : ℕ) → ByteState (numberBlock n)
-unfolding numberBlock
-numberBlock-bytes n =
-    record {
-      c0 = lowWord-bytes n;
-      c1 = lowWord-bytes _;
-      c2 = record { r0 = lit< tt; r1 = lit< tt; r2 = lit< tt; r3 = lit< tt };
-      c3 = record { r0 = lit< tt; r1 = lit< tt; r2 = lit< tt; r3 = lit< tt };
     }
 
 -- ---- a function of states between two additions of the tweak: both directions are of this kind

@@ -1,5 +1,5 @@
 -- CBC with ciphertext stealing, CBC-CS3: the addendum to NIST SP 800-38A, over a text of 16 bytes or more, which is P_1 .. P_n of 16 bytes each,
--- but for the last, which may be shorter. CBC itself is SP 800-38A section 6.2. Assumes nothing.
+-- but for the last, which may be shorter. CBC itself is in Cbc.antt. Assumes nothing.
 use mathlib.Core.Bool.{cond}
 use mathlib.Core.List.{List, _++_}
 use Prim.Native.Nat.{ℕ, _+_, _-_, _*_, _/_}
@@ -7,25 +7,11 @@ use lib.Dec.{ltb}
 use lib.ListN.{length, take, getD}
 use Rattle.aes.specs.States.{addRoundKey, stateAt}
 use Rattle.aes.specs.Bytes.{stateBytes}
-use Rattle.aes.specs.Cipher.{cipher, invCipher}
+use Rattle.aes.specs.Cipher.{invCipher}
 use Rattle.aes.specs.declared.Word.{Word}
 use Rattle.aes.specs.declared.State.{State}
 use Rattle.modes.specs.Walk.{carried, walked}
-
--- ---- CBC: C_i is P_i, with C_(i-1) added, enciphered; C_i is carried on. C_0 is the initialization vector
-
-unfoldable pub cbcStep : List ℕ → ℕ → State → State → State
-cbcStep w nr c p = cipher w nr (addRoundKey p c)
-
-abbrev pub cbcNext : State → State → State → State
-cbcNext c p o = o
-
--- CBC decryption: C_(i-1) is added after deciphering; the block that was read is carried on
-unfoldable pub cbcInvStep : List ℕ → ℕ → State → State → State
-cbcInvStep w nr c o = addRoundKey (invCipher w nr o) c
-
-abbrev pub cbcInvNext : State → State → State → State
-cbcInvNext c o p = o
+use Rattle.modes.specs.Cbc.{cbcStep, cbcNext, cbcInvStep, cbcInvNext}
 
 -- ---- the last two blocks, P_(n-1) at position i and P_n after it, which change order
 

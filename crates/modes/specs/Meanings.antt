@@ -8,8 +8,10 @@ use Rattle.field.specs.Field.{_⊕_}
 use Rattle.aes.specs.Bytes.{stateBytes}
 use Rattle.aes.specs.declared.State.{State}
 use Rattle.modes.specs.Walk.{walked}
-use Rattle.modes.specs.Xts.{numberBlock, timesAlpha}
-use Rattle.modes.specs.Cts.{cbcStep, cbcNext, cbcCs3Encrypt}
+use Rattle.modes.specs.Blocks.{numberBlock}
+use Rattle.modes.specs.Xts.{timesAlpha}
+use Rattle.modes.specs.Cbc.{cbcStep, cbcNext}
+use Rattle.modes.specs.Cts.{cbcCs3Encrypt}
 
 -- the number that bytes stand for, the lowest first
 abbrev pub littleEndian : Bytes → ℕ

@@ -1,6 +1,8 @@
 -- Modes of operation: a list of bytes is worked through block by block, and a state is carried from block to block. Assumes nothing.
+use mathlib.Core.Path.{_≡_}
 use mathlib.Core.List.{List, [], _++_}
 use Prim.Native.Nat.{ℕ, zero, suc, _*_}
+use lib.ListN.{drop}
 use Rattle.aes.specs.States.{stateAt}
 use Rattle.aes.specs.Bytes.{stateBytes}
 use Rattle.aes.specs.declared.State.{State}
@@ -16,3 +18,8 @@ module _ (step : State → State → State) (next : State → State → State �
   unfoldable pub walked : ℕ → List ℕ
   walked zero = []
   walked (suc i) = walked i ++ stateBytes (step (carried i) (stateAt l (16 * i)))
+
+  -- a buffer that held l, on the way: its first i blocks are done, the others are as they were, and t is carried to block i
+  pub record Going (i : ℕ) (buffer : List ℕ) (t : State) : Type 0 where
+    pub list : buffer ≡ walked i ++ drop (16 * i) l
+    pub carry : t ≡ carried i

@@ -1,4 +1,4 @@
--- XTS-AES, IEEE 1619 section 5, over data units of whole blocks. Assumes nothing.
+-- XTS-AES, IEEE 1619 section 5, over data units of whole blocks. Section 5.1, a data unit's number as a block, is in Blocks.antt. Assumes nothing.
 use mathlib.Core.List.{List}
 use Prim.Native.Nat.{ℕ, _*_, _/_, _%_}
 use Rattle.field.specs.Field.{_⊕_}
@@ -7,17 +7,6 @@ use Rattle.aes.specs.Cipher.{cipher, invCipher}
 use Rattle.aes.specs.declared.Word.{Word}
 use Rattle.aes.specs.declared.State.{State}
 use Rattle.modes.specs.Walk.{walked}
-
--- ---- 5.1 the data unit's number as a block: its 8 bytes, the lowest first, and 8 zeros
-
-unfoldable pub lowWord : ℕ → Word
-lowWord n = record { r0 = n % 256; r1 = n / 256 % 256; r2 = n / 65536 % 256; r3 = n / 16777216 % 256 }
-
-abbrev pub zeroWord : Word
-zeroWord = record { r0 = 0; r1 = 0; r2 = 0; r3 = 0 }
-
-unfoldable pub numberBlock : ℕ → State
-numberBlock n = record { c0 = lowWord n; c1 = lowWord (n / 4294967296); c2 = zeroWord; c3 = zeroWord }
 
 -- ---- 5.2 multiplication by α: the 16 bytes, the lowest first, are moved up by one binary digit, and 135 is added where the highest digit came out
 

@@ -1,5 +1,6 @@
 // CBC with ciphertext stealing CS3, the addendum to NIST SP 800-38A.
-use crate::xts;
+use crate::blocks;
+use crate::cbc;
 use aes::State;
 use aes::Word;
 use aes::cipher;
@@ -11,8 +12,7 @@ ghost use lib.ListN.{length, take, getD};
 ghost use Rattle.aes.specs.Cipher.{Keyed};
 ghost use Rattle.field.specs.SBox.{sBoxTable, invSBoxTable};
 ghost use Rattle.aes.specs.Bytes.{stateBytes};
-ghost use Rattle.modes.specs.Walk.{walked};
-ghost use Rattle.modes.specs.Cts.{cbcStep, cbcNext, cbcInvStep, cbcInvNext, lastTwo, invLastTwo, filledWord, filled, cs3Encrypt, cs3Decrypt, cbcCs3Encrypt, cbcCs3Decrypt};
+ghost use Rattle.modes.specs.Cts.{lastTwo, invLastTwo, filledWord, filled, cs3Encrypt, cs3Decrypt, cbcCs3Encrypt, cbcCs3Decrypt};
 
 // A byte of a buffer, or another one past its end.
 fn byte(l: &[u8], i: usize, other: u8) -> u8
@@ -61,21 +61,6 @@ fn store_front(l: &mut [u8], at: usize, s: State)
     lists::copy_to(l, at, &t[..n]);
 }
 
-// A block of CBC, after the ciphertext block c.
-fn cbc_block(sbox: &[u8; 256], w: &[u8], nr: usize, c: State, p: State) -> State
-    requires { ⌜ Keyed sBoxTable (now sbox) (now w) nr ⌝ }
-    ensures { λ r. ⌜ r ≡ cbcStep (now (w .entry)) nr c p ⌝ }
-{
-    cipher::cipher(sbox, w, nr, states::add_round_key(p, c))
-}
-
-fn inv_cbc_block(inv_sbox: &[u8; 256], w: &[u8], nr: usize, c: State, o: State) -> State
-    requires { ⌜ Keyed invSBoxTable (now «inv_sbox») (now w) nr ⌝ }
-    ensures { λ r. ⌜ r ≡ cbcInvStep (now (w .entry)) nr c o ⌝ }
-{
-    states::add_round_key(cipher::inv_cipher(inv_sbox, w, nr, o), c)
-}
-
 // Two blocks stored at the end of a buffer, the second cut to the room that is left.
 fn store_last_two(l: &mut [u8], at: usize, b: State, a: State)
     requires { ⌜ (at + 16 ≤ length (now l)) × (length (now l) ≤ at + 32) ⌝ }
@@ -90,9 +75,9 @@ fn last_two(sbox: &[u8; 256], w: &[u8], nr: usize, c: State, l: &mut [u8], at: u
     requires { ⌜ Keyed sBoxTable (now sbox) (now w) nr × (at + 16 ≤ length (now l)) × (length (now l) ≤ at + 32) × (length (now l) ≤ 4096) ⌝ }
     ensures { λ _. ⌜ now (l .exit) ≡ take at (now (l .entry)) ++ lastTwo (now (w .entry)) nr c (now (l .entry)) at ⌝ }
 {
-    let z = xts::number_block(0);
-    let a = cbc_block(sbox, w, nr, c, states::load(l, at));
-    let b = cbc_block(sbox, w, nr, a, fill(l, at + 16, z));
+    let z = blocks::zero_block();
+    let a = cbc::step(sbox, w, nr, c, states::load(l, at));
+    let b = cbc::step(sbox, w, nr, a, fill(l, at + 16, z));
     store_last_two(l, at, b, a);
 }
 
@@ -103,7 +88,7 @@ fn inv_last_two(inv_sbox: &[u8; 256], w: &[u8], nr: usize, c: State, l: &mut [u8
 {
     let z = cipher::inv_cipher(inv_sbox, w, nr, states::load(l, at));
     let a = fill(l, at + 16, z);
-    let p = inv_cbc_block(inv_sbox, w, nr, c, a);
+    let p = cbc::inv_step(inv_sbox, w, nr, c, a);
     let q = states::add_round_key(z, a);
     store_last_two(l, at, p, q);
 }
@@ -113,13 +98,7 @@ fn steal(sbox: &[u8; 256], w: &[u8], nr: usize, iv: State, l: &mut [u8], m: usiz
     requires { ⌜ Keyed sBoxTable (now sbox) (now w) nr × (16 * m + 16 < length (now l)) × (length (now l) ≤ 16 * m + 32) × (length (now l) ≤ 4096) ⌝ }
     ensures { λ _. ⌜ now (l .exit) ≡ cs3Encrypt (now (w .entry)) nr iv (now (l .entry)) m ⌝ }
 {
-    let mut t = iv;
-    let mut i: usize = 0;
-    while i < m {
-        t = cbc_block(sbox, w, nr, t, states::load(l, 16 * i));
-        states::store(l, 16 * i, t);
-        i += 1;
-    }
+    let t = cbc::encrypt(sbox, w, nr, iv, l, m);
     last_two(sbox, w, nr, t, l, 16 * m);
 }
 
@@ -127,33 +106,8 @@ fn inv_steal(inv_sbox: &[u8; 256], w: &[u8], nr: usize, iv: State, l: &mut [u8],
     requires { ⌜ Keyed invSBoxTable (now «inv_sbox») (now w) nr × (16 * m + 16 < length (now l)) × (length (now l) ≤ 16 * m + 32) × (length (now l) ≤ 4096) ⌝ }
     ensures { λ _. ⌜ now (l .exit) ≡ cs3Decrypt (now (w .entry)) nr iv (now (l .entry)) m ⌝ }
 {
-    let mut t = iv;
-    let mut i: usize = 0;
-    while i < m {
-        let o = states::load(l, 16 * i);
-        let p = inv_cbc_block(inv_sbox, w, nr, t, o);
-        states::store(l, 16 * i, p);
-        t = o;
-        i += 1;
-    }
+    let t = cbc::decrypt(inv_sbox, w, nr, iv, l, m);
     inv_last_two(inv_sbox, w, nr, t, l, 16 * m);
-}
-
-// A text of one block.
-fn single(sbox: &[u8; 256], w: &[u8], nr: usize, iv: State, l: &mut [u8])
-    requires { ⌜ Keyed sBoxTable (now sbox) (now w) nr × (length (now l) ≡ 16) ⌝ }
-    ensures { λ _. ⌜ now (l .exit) ≡ walked (cbcStep (now (w .entry)) nr) cbcNext (now (l .entry)) iv 1 ⌝ }
-{
-    let o = cbc_block(sbox, w, nr, iv, states::load(l, 0));
-    states::store(l, 0, o);
-}
-
-fn inv_single(inv_sbox: &[u8; 256], w: &[u8], nr: usize, iv: State, l: &mut [u8])
-    requires { ⌜ Keyed invSBoxTable (now «inv_sbox») (now w) nr × (length (now l) ≡ 16) ⌝ }
-    ensures { λ _. ⌜ now (l .exit) ≡ walked (cbcInvStep (now (w .entry)) nr) cbcInvNext (now (l .entry)) iv 1 ⌝ }
-{
-    let o = inv_cbc_block(inv_sbox, w, nr, iv, states::load(l, 0));
-    states::store(l, 0, o);
 }
 
 // CBC-CS3 of a text of 16 to 4,096 bytes, in place.
@@ -166,7 +120,7 @@ pub fn encrypt(sbox: &[u8; 256], w: &[u8], nr: usize, iv: State, l: &mut [u8])
         steal(sbox, w, nr, iv, l, m);
         return;
     }
-    single(sbox, w, nr, iv, l);
+    cbc::encrypt(sbox, w, nr, iv, l, 1);
 }
 
 pub fn decrypt(inv_sbox: &[u8; 256], w: &[u8], nr: usize, iv: State, l: &mut [u8])
@@ -178,5 +132,5 @@ pub fn decrypt(inv_sbox: &[u8; 256], w: &[u8], nr: usize, iv: State, l: &mut [u8
         inv_steal(inv_sbox, w, nr, iv, l, m);
         return;
     }
-    inv_single(inv_sbox, w, nr, iv, l);
+    cbc::decrypt(inv_sbox, w, nr, iv, l, 1);
 }

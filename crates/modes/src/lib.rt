@@ -1,4 +1,6 @@
-// Modes of operation over AES: ECB, CBC-CS3 and XTS, each over any key schedule.
+// Modes of operation over AES: ECB, CBC, CBC-CS3 and XTS, each over any key schedule.
+pub mod blocks;
+pub mod cbc;
 pub mod cts;
 pub mod ecb;
 pub mod xts;

@@ -8,7 +8,7 @@ ghost use Prim.Native.Nat.{_*_, _<_};
 ghost use lib.ListN.{length};
 ghost use Rattle.aes.specs.Cipher.{Keyed};
 ghost use Rattle.field.specs.SBox.{sBoxTable, invSBoxTable};
-ghost use Rattle.modes.specs.Xts.{blockEnc, blockDec, timesAlpha, shiftedWord, xtsAesEnc, xtsAesDec, zeroWord, lowWord, numberBlock};
+ghost use Rattle.modes.specs.Xts.{blockEnc, blockDec, timesAlpha, shiftedWord, xtsAesEnc, xtsAesDec};
 
 // Four bytes of the tweak, moved up by one binary digit; low comes in at their low end.
 fn shifted_word(w: Word, low: u8) -> Word
@@ -31,40 +31,6 @@ fn times_alpha(t: State) -> State
         c1: shifted_word(t.c1, t.c0.r3 / 128),
         c2: shifted_word(t.c2, t.c1.r3 / 128),
         c3: shifted_word(t.c3, t.c2.r3 / 128),
-    }
-}
-
-fn zero_word() -> Word
-    ensures { λ r. ⌜ r ≡ zeroWord ⌝ }
-{
-    Word {
-        r0: 0,
-        r1: 0,
-        r2: 0,
-        r3: 0,
-    }
-}
-
-fn low_word(n: u64) -> Word
-    ensures { λ r. ⌜ r ≡ lowWord n ⌝ }
-{
-    Word {
-        r0: (n % 256) as u8,
-        r1: (n / 256 % 256) as u8,
-        r2: (n / 65536 % 256) as u8,
-        r3: (n / 16777216 % 256) as u8,
-    }
-}
-
-// A data unit's number as a block, IEEE 1619 section 5.1: its lowest byte first, and eight zeros.
-pub fn number_block(n: u64) -> State
-    ensures { λ r. ⌜ r ≡ numberBlock n ⌝ }
-{
-    State {
-        c0: low_word(n),
-        c1: low_word(n / 4294967296),
-        c2: zero_word(),
-        c3: zero_word(),
     }
 }
 

@@ -11,19 +11,23 @@ use Rattle.ciphers.proofs.keys.cts_decrypt.Statement.{statement}
 use Rattle.ciphers.proofs.keys.cts_decrypt.Tie as tie
 
 slice-aggregate-decrypt : tie.Need-slice-aggregate-decrypt
-slice-aggregate-decrypt c = count-take (16 * (length (now (c .before .before .before .before .before .before .args .key)) / 4 + 6 + 1)) (c .before .before .expanded-key .result) (omega arith)
+slice-aggregate-decrypt c =
+    let key = now (c .before .before .before .before .before .before .args .key) in
+    count-take (16 * (length key / 4 + 6 + 1)) (c .before .before .expanded-key .result) (omega arith)
 
 decrypt-requires : tie.Need-decrypt-requires
-decrypt-requires c κs = (
-  record { table = c .before .before .before .before .before .inv-table .ensures; few = omega (arith, c .before .before .before .before .before .before .before .before .pre); whole = omega (arith, c .before .before .before .before .before .before .before .before .pre, slice-aggregate-decrypt (c .before .before)) },
-  omega (arith, c .before .before .before .before .before .before .before .before .pre),
-  omega (arith, c .before .before .before .before .before .before .before .before .pre),
-)
+decrypt-requires c κs =
+    let given = c .before .before .before .before .before .before .before .before .pre in (
+      record { table = c .before .before .before .before .before .inv-table .ensures; few = omega (arith, given); whole = omega (arith, given, slice-aggregate-decrypt (c .before .before)) },
+      omega (arith, given),
+      omega (arith, given),
+    )
 
 returns : tie.Need-returns
 returns c =
-    under cbcCs3Decrypt (now (c .before .before .before .before .before .before .before .before .before .before .before .args .key)) (c .before .before .before .before .before .before .before .expanded-key .result) _ _ _ (c .before .before .decrypt .ensures) (c .before .before .before .before .before .before .before .expanded-key .ensures)
-    (c .before .before .before .before .number-block .ensures)
+    let expanded = c .before .before .before .before .before .before .before in
+    let s = expanded .before .before .before .before .args in
+    under cbcCs3Decrypt (now (s .key)) (expanded .expanded-key .result) _ _ _ (c .before .before .decrypt .ensures) (expanded .expanded-key .ensures) (c .before .before .before .before .zero-block .ensures)
 
 pub cts-decrypt-spec : {M : Type 1} → statement M
 cts-decrypt-spec =

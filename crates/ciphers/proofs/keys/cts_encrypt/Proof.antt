@@ -11,19 +11,23 @@ use Rattle.ciphers.proofs.keys.cts_encrypt.Statement.{statement}
 use Rattle.ciphers.proofs.keys.cts_encrypt.Tie as tie
 
 slice-aggregate-encrypt : tie.Need-slice-aggregate-encrypt
-slice-aggregate-encrypt c = count-take (16 * (length (now (c .before .before .before .before .before .before .args .key)) / 4 + 6 + 1)) (c .before .before .expanded-key .result) (omega arith)
+slice-aggregate-encrypt c =
+    let key = now (c .before .before .before .before .before .before .args .key) in
+    count-take (16 * (length key / 4 + 6 + 1)) (c .before .before .expanded-key .result) (omega arith)
 
 encrypt-requires : tie.Need-encrypt-requires
-encrypt-requires c κs = (
-  record { table = c .before .before .before .before .before .table .ensures; few = omega (arith, c .before .before .before .before .before .before .before .before .pre); whole = omega (arith, c .before .before .before .before .before .before .before .before .pre, slice-aggregate-encrypt (c .before .before)) },
-  omega (arith, c .before .before .before .before .before .before .before .before .pre),
-  omega (arith, c .before .before .before .before .before .before .before .before .pre),
-)
+encrypt-requires c κs =
+    let given = c .before .before .before .before .before .before .before .before .pre in (
+      record { table = c .before .before .before .before .before .table .ensures; few = omega (arith, given); whole = omega (arith, given, slice-aggregate-encrypt (c .before .before)) },
+      omega (arith, given),
+      omega (arith, given),
+    )
 
 returns : tie.Need-returns
 returns c =
-    under cbcCs3Encrypt (now (c .before .before .before .before .before .before .before .before .before .before .before .args .key)) (c .before .before .before .before .before .before .before .expanded-key .result) _ _ _ (c .before .before .encrypt .ensures) (c .before .before .before .before .before .before .before .expanded-key .ensures)
-    (c .before .before .before .before .number-block .ensures)
+    let expanded = c .before .before .before .before .before .before .before in
+    let s = expanded .before .before .before .before .args in
+    under cbcCs3Encrypt (now (s .key)) (expanded .expanded-key .result) _ _ _ (c .before .before .encrypt .ensures) (expanded .expanded-key .ensures) (c .before .before .before .before .zero-block .ensures)
 
 pub cts-encrypt-spec : {M : Type 1} → statement M
 cts-encrypt-spec =

@@ -11,15 +11,18 @@ slice-aggregate-encrypt : tie.Need-slice-aggregate-encrypt
 slice-aggregate-encrypt c = count-take 176 (c .before .before .expanded-key .result) (omega arith)
 
 encrypt-requires : tie.Need-encrypt-requires
-encrypt-requires c κs = (
-  record { table = c .before .before .before .before .table .ensures; few = omega arith; whole = omega (arith, count-take 176 (c .before .before .before .expanded-key .result) (omega arith)) },
-  omega (arith, c .before .before .before .before .before .before .before .pre),
-  omega (arith, c .before .before .before .before .before .before .before .pre),
-)
+encrypt-requires c κs =
+    let given = c .before .before .before .before .before .before .before .pre in (
+      record { table = c .before .before .before .before .table .ensures; few = omega arith; whole = omega (arith, count-take 176 (c .before .before .before .expanded-key .result) (omega arith)) },
+      omega (arith, given),
+      omega (arith, given),
+    )
 
 returns : tie.Need-returns
 returns c =
-    under-128 (now (c .before .before .before .before .before .before .before .before .before .before .args .key)) (c .before .before .before .before .before .before .expanded-key .result) _ _ _ (c .before .before .before .before .before .before .before .before .before .before .pre .0) (c .before .before .encrypt .ensures) (c .before .before .before .before .before .before .expanded-key .ensures)
+    let expanded = c .before .before .before .before .before .before in
+    let start = expanded .before .before .before .before in
+    under-128 (now (start .args .key)) (expanded .expanded-key .result) _ _ _ (start .pre .0) (c .before .before .encrypt .ensures) (expanded .expanded-key .ensures)
 
 pub ecb-encrypt-spec : {M : Type 1} → statement M
 ecb-encrypt-spec =

@@ -11,8 +11,10 @@ slice-aggregate-cipher c = search needs
 
 returns : tie.Need-returns
 returns c =
-    tweak-by (now (c .before .before .before .before .before .before .before .before .args .key)) _ (c .before .before .before .before .expanded-key .result) _ _ _ (c .before .before .before .before .before .before .before .before .pre) (part-to-end (now (c .before .before .before .before .before .before .before .before .args .key)) 32)
-    (slice-aggregate-cipher (c .before .before)) (c .before .before .before .before .expanded-key .ensures) (c .before .number-block .ensures) (c .cipher .ensures)
+    let start = c .before .before .before .before .before .before .before .before in
+    let expanded = c .before .before .before .before .expanded-key in
+    tweak-by (now (start .args .key)) _ (expanded .result) _ _ _ (start .pre) (part-to-end (now (start .args .key)) 32) (slice-aggregate-cipher (c .before .before)) (expanded .ensures) (c .before .number-block .ensures)
+    (c .cipher .ensures)
 
 pub tweak-spec : {M : Type 1} → statement M
 tweak-spec =

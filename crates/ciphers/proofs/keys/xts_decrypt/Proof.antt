@@ -15,7 +15,8 @@ slice-aggregate-expanded-key c = count-take 32 (now (c .before .before .before .
 
 expanded-key-requires : tie.Need-expanded-key-requires
 expanded-key-requires c κs =
-    let e : 32 ≡ length (take 32 (now (c .before .before .before .before .args .key))) = count-take 32 (now (c .before .before .before .before .args .key)) (omega arith) in
+    let key = now (c .before .before .before .before .args .key) in
+    let e : 32 ≡ length (take 32 key) = count-take 32 key (omega arith) in
     record { words = omega arith; least = omega arith; most = omega arith }
 
 slice-aggregate-decrypt : tie.Need-slice-aggregate-decrypt
@@ -23,8 +24,10 @@ slice-aggregate-decrypt c = search needs
 
 returns : tie.Need-returns
 returns c =
-    under-half xtsAesDec (now (c .before .before .before .before .before .before .before .before .before .before .before .before .args .key)) (c .before .before .before .before .before .before .before .expanded-key .result) _ _ _ _ (c .before .before .before .before .before .before .before .before .before .before .before .before .pre .0) (slice-aggregate-decrypt (c .before .before .before .before .before))
-    (c .before .before .decrypt .ensures) (c .before .before .before .before .before .before .before .expanded-key .ensures) (c .before .before .before .before .tweak .ensures)
+    let expanded = c .before .before .before .before .before .before .before in
+    let start = expanded .before .before .before .before .before in
+    under-half xtsAesDec (now (start .args .key)) (expanded .expanded-key .result) _ _ _ _ (start .pre .0) (slice-aggregate-decrypt (c .before .before .before .before .before)) (c .before .before .decrypt .ensures) (expanded .expanded-key .ensures)
+    (c .before .before .before .before .tweak .ensures)
 
 pub xts-decrypt-spec : {M : Type 1} → statement M
 xts-decrypt-spec =

@@ -1,8 +1,8 @@
--- `xts::low_word` meets its contract: the search closes what is left. Assumes nothing.
-use Rattle.modes.specs.Xts.{lowWord}
+-- `blocks::low_word` meets its contract: the search closes what is left. Assumes nothing.
+use Rattle.modes.specs.Blocks.{lowWord}
 use borrow.Author.Needs.{needs}
-use Rattle.modes.proofs.xts.low_word.Statement.{statement}
-use Rattle.modes.proofs.xts.low_word.Tie as tie
+use Rattle.modes.proofs.blocks.low_word.Statement.{statement}
+use Rattle.modes.proofs.blocks.low_word.Tie as tie
 
 returns : tie.Need-returns
 unfolding lowWord

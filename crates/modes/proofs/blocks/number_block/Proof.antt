@@ -1,8 +1,8 @@
--- `xts::number_block` meets its contract: what its calls ensure, put together by congruence. Assumes nothing.
-use Rattle.modes.specs.Xts.{numberBlock}
+-- `blocks::number_block` meets its contract: what its calls ensure, put together by congruence. Assumes nothing.
+use Rattle.modes.specs.Blocks.{numberBlock}
 use borrow.Author.Needs.{needs}
-use Rattle.modes.proofs.xts.number_block.Statement.{statement}
-use Rattle.modes.proofs.xts.number_block.Tie as tie
+use Rattle.modes.proofs.blocks.number_block.Statement.{statement}
+use Rattle.modes.proofs.blocks.number_block.Tie as tie
 
 returns : tie.Need-returns
 unfolding numberBlock

@@ -1,14 +1,14 @@
--- `cts::steal` meets its contract: by the invariant of its loop and `steal-by`. Assumes nothing.
-use Rattle.modes.specs.Cts.{cbcStep, cbcNext}
-use Rattle.modes.proofs.BlockLoop.{Going, going-start, going-turn}
-use Rattle.modes.proofs.CtsSteal.{steal-by}
+-- `cbc::encrypt` meets its contract: by the invariant of its loop, which is the contract's own `Going` on the way. Assumes nothing.
 use Prim.Native.Nat.{_≤_, _-_}
 use native.Mathlib.Omega.{arith}
 use mathlib.Core.Path.{_≡_, refl}
 use lib.ListN.{length}
+use Rattle.modes.specs.Walk.{Going}
+use Rattle.modes.specs.Cbc.{cbcStep, cbcNext}
+use Rattle.modes.proofs.BlockLoop.{going-start, going-turn}
 use borrow.Author.Needs.{needs}
-use Rattle.modes.proofs.cts.steal.Statement.{statement}
-use Rattle.modes.proofs.cts.steal.Tie as tie
+use Rattle.modes.proofs.cbc.encrypt.Statement.{statement}
+use Rattle.modes.proofs.cbc.encrypt.Tie as tie
 
 abbrev Inv-loop : tie.InvT-loop
 Inv-loop x k n l₀ m t₀ i₀ l t i = (i ≤ m) × (length l ≡ length l₀) × Going (cbcStep k n) cbcNext l₀ t₀ i l t
@@ -19,34 +19,39 @@ abbrev μ-loop : tie.MeasureT-loop
 loop-holds : tie.Need-loop-holds Inv-loop μ-loop
 loop-holds c = (omega arith, refl, going-start _ _ _ _)
 
+mul-load : tie.Need-mul-load Inv-loop μ-loop
+mul-load c = omega arith
+
+mul-store : tie.Need-mul-store Inv-loop μ-loop
+mul-store c = mul-load (c .before .before .before)
+
 loop-again : tie.Need-loop-again Inv-loop μ-loop
-loop-again c = (
-  omega arith,
-  omega (arith, c .before .before .store .kept .0),
-  going-turn _ _ _ _ _ _ _ _ _ _ _ (c .before .before .before .before .before .before .before .before .loop .inv .2) (c .before .before .before .before .before .load .ensures) (c .before .before .before .before .cbc-block .ensures) (c .before .before .store .ensures) refl,
-)
+loop-again c =
+    let loop = c .before .before .before .before .before .before .before .before .loop in (
+      omega arith,
+      omega (arith, c .before .before .store .kept .0),
+      going-turn _ _ _ _ _ _ _ _ _ _ _ (loop .inv .2) (c .before .before .before .before .before .load .ensures) (c .before .before .before .before .step .ensures) (c .before .before .store .ensures) refl,
+    )
 
 returns : tie.Need-returns Inv-loop μ-loop
 returns c =
-    let e : c .before .before .before .before .before .loop .i ≡ c .before .before .before .before .before .before .before .before .args .m = omega arith in
-    steal-by _ _ _ _ _ _ _ _ _ e (c .before .before .before .before .before .loop .inv .1) (c .before .before .before .before .before .loop .inv .2) (c .before .before .last-two .ensures)
+    let e : c .before .loop .i ≡ c .before .before .before .before .args .m = omega arith in
+    rw (← e) (c .before .loop .inv .2)
 
-pub steal-spec : {M : Type 1} → statement M
-steal-spec =
+pub encrypt-spec : {M : Type 1} → statement M
+encrypt-spec =
     tie.close
     (tie.spec
     Inv-loop
     μ-loop
     loop-holds
-    (λ c. omega arith)
+    mul-load
     (λ c κs. omega arith)
     (λ c κs. search needs)
-    (λ c. omega arith)
+    mul-store
     (λ c κs. omega arith)
     (λ c. omega arith)
     (λ c. omega arith)
     loop-again
-    (λ c. omega arith)
-    (λ c κs. search needs)
     (λ c. omega arith)
     returns)

@@ -1,15 +1,20 @@
--- `cts::encrypt` meets its contract: by the laws `encrypted-long`, `encrypted-one`, from what its calls ensure. Assumes nothing.
+-- `cts::encrypt` meets its contract: by the laws `cs3-long` and `cs3-one`, from what its calls ensure. Assumes nothing.
 use mathlib.Core.Path.{sym, _∙_}
-use Rattle.modes.proofs.CtsSteal.{encrypted-long, encrypted-one}
+use Rattle.modes.specs.Cbc.{cbcStep, cbcNext}
+use Rattle.modes.specs.Cts.{lastTwo, cs3Encrypt, cbcCs3Encrypt}
+use Rattle.modes.proofs.BlockLoop.{going-end}
+use Rattle.modes.proofs.CtsSteal.{long, cs3, cs3-long, cs3-one}
 use borrow.Author.Needs.{needs}
 use Rattle.modes.proofs.cts.encrypt.Statement.{statement}
 use Rattle.modes.proofs.cts.encrypt.Tie as tie
 
 returns : tie.Need-returns
-returns c = c .before .before .steal .ensures ∙ sym (encrypted-long _ _ _ _ (c .before .before .before .before .if1 .taken))
+unfolding cbcCs3Encrypt cs3Encrypt cs3 long
+returns c = c .before .before .steal .ensures ∙ sym (cs3-long (cbcStep _ _) cbcNext (lastTwo _ _) _ _ (c .before .before .before .before .if1 .taken))
 
 returns-2 : tie.Need-returns-2
-returns-2 c = c .before .before .single .ensures ∙ sym (encrypted-one _ _ _ _ (c .before .before .before .before .if1 .left))
+unfolding cbcCs3Encrypt cs3Encrypt cs3 long
+returns-2 c = going-end _ _ _ _ _ _ _ (c .before .before .encrypt .ensures) (c .before .before .before .before .if1 .left) ∙ sym (cs3-one (cbcStep _ _) cbcNext (lastTwo _ _) _ _ (c .before .before .before .before .if1 .left))
 
 pub encrypt-spec : {M : Type 1} → statement M
 encrypt-spec =

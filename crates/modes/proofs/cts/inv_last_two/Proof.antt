@@ -6,10 +6,15 @@ use Rattle.modes.proofs.cts.inv_last_two.Statement.{statement}
 use Rattle.modes.proofs.cts.inv_last_two.Tie as tie
 
 store-last-two-requires : tie.Need-store-last-two-requires
-store-last-two-requires c κs = omega (arith, c .before .before .before .before .before .before .before .before .before .before .pre)
+store-last-two-requires c κs =
+    let given = c .before .before .before .before .before .before .before .before .before .before .pre in
+    omega (arith, given)
 
 returns : tie.Need-returns
-returns c = untail-by _ _ _ _ _ _ _ _ _ _ _ (c .before .before .before .before .before .before .before .before .before .load .ensures) (c .before .before .before .before .before .before .before .before .inv-cipher .ensures) (c .before .before .before .before .before .before .fill .ensures) (c .before .before .before .before .before .inv-cbc-block .ensures) (c .before .before .before .before .add-round-key .ensures) (c .before .before .store-last-two .ensures)
+returns c =
+    let filled = c .before .before .before .before .before .before in
+    let deciphered = filled .before .before in
+    untail-by _ _ _ _ _ _ _ _ _ _ _ (deciphered .before .load .ensures) (deciphered .inv-cipher .ensures) (filled .fill .ensures) (c .before .before .before .before .before .inv-step .ensures) (c .before .before .before .before .add-round-key .ensures) (c .before .before .store-last-two .ensures)
 
 pub inv-last-two-spec : {M : Type 1} → statement M
 inv-last-two-spec =

@@ -6,10 +6,15 @@ use Rattle.modes.proofs.cts.last_two.Statement.{statement}
 use Rattle.modes.proofs.cts.last_two.Tie as tie
 
 store-last-two-requires : tie.Need-store-last-two-requires
-store-last-two-requires c κs = omega (arith, c .before .before .before .before .before .before .before .before .before .before .pre)
+store-last-two-requires c κs =
+    let given = c .before .before .before .before .before .before .before .before .before .before .pre in
+    omega (arith, given)
 
 returns : tie.Need-returns
-returns c = tail-by _ _ _ _ _ _ _ _ _ _ _ (c .before .before .before .before .before .before .before .before .before .before .number-block .ensures) (c .before .before .before .before .before .before .before .before .load .ensures) (c .before .before .before .before .before .before .before .cbc-block .ensures) (c .before .before .before .before .before .fill .ensures) (c .before .before .before .before .cbc-block2 .ensures) (c .before .before .store-last-two .ensures)
+returns c =
+    let first = c .before .before .before .before .before .before .before in
+    let zero = first .before .before .before in
+    tail-by _ _ _ _ _ _ _ _ _ _ _ (zero .zero-block .ensures) (first .before .load .ensures) (first .step .ensures) (c .before .before .before .before .before .fill .ensures) (c .before .before .before .before .step2 .ensures) (c .before .before .store-last-two .ensures)
 
 pub last-two-spec : {M : Type 1} → statement M
 last-two-spec =

@@ -5,7 +5,9 @@ use Rattle.modes.proofs.cts.store_last_two.Statement.{statement}
 use Rattle.modes.proofs.cts.store_last_two.Tie as tie
 
 returns : tie.Need-returns
-returns c = finish-by _ _ _ _ _ _ (c .before .before .before .before .before .before .before .before .before .pre .0) (c .before .before .before .before .before .before .store .ensures) (c .before .before .store-front .ensures)
+returns c =
+    let first = c .before .before .before .before .before .before in
+    finish-by _ _ _ _ _ _ (first .before .before .before .pre .0) (first .store .ensures) (c .before .before .store-front .ensures)
 
 pub store-last-two-spec : {M : Type 1} → statement M
 store-last-two-spec =

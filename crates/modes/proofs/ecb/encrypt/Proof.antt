@@ -3,15 +3,16 @@ use Prim.Native.Nat.{_*_, _-_, _≤_}
 use native.Mathlib.Omega.{arith}
 use mathlib.Core.Path.{_≡_, refl, sym, _∙_}
 use lib.ListN.{length}
-use Rattle.modes.specs.Xts.{numberBlock}
+use Rattle.modes.specs.Blocks.{zeroBlock}
 use Rattle.modes.proofs.EcbBlocks.{ecbStep, ecbNext, ecb-walked}
-use Rattle.modes.proofs.BlockLoop.{Going, going-start, going-turn, going-end}
+use Rattle.modes.specs.Walk.{Going}
+use Rattle.modes.proofs.BlockLoop.{going-start, going-turn, going-end}
 use borrow.Author.Needs.{needs}
 use Rattle.modes.proofs.ecb.encrypt.Statement.{statement}
 use Rattle.modes.proofs.ecb.encrypt.Tie as tie
 
 abbrev Inv-loop : tie.InvT-loop
-Inv-loop sbox w nr l₀ m i₀ l i = (i ≤ m) × (length l ≡ 16 * m) × Going (ecbStep w nr) ecbNext l₀ (numberBlock 0) i l (numberBlock 0)
+Inv-loop sbox w nr l₀ m i₀ l i = (i ≤ m) × (length l ≡ 16 * m) × Going (ecbStep w nr) ecbNext l₀ zeroBlock i l zeroBlock
 
 abbrev μ-loop : tie.MeasureT-loop
 μ-loop sbox w nr l₀ m i₀ l i = m - i
@@ -20,7 +21,9 @@ loop-holds : tie.Need-loop-holds Inv-loop μ-loop
 loop-holds c = (omega arith, omega arith, going-start _ _ _ _)
 
 loop-again : tie.Need-loop-again Inv-loop μ-loop
-loop-again c = (omega arith, omega arith, going-turn _ _ _ _ _ _ _ _ _ _ _ (c .before .before .before .before .before .before .before .before .loop .inv .2) (c .before .before .before .before .before .load .ensures) (c .before .before .before .before .cipher .ensures) (c .before .before .store .ensures) refl)
+loop-again c =
+    let loop = c .before .before .before .before .before .before .before .before .loop in
+    (omega arith, omega arith, going-turn _ _ _ _ _ _ _ _ _ _ _ (loop .inv .2) (c .before .before .before .before .before .load .ensures) (c .before .before .before .before .cipher .ensures) (c .before .before .store .ensures) refl)
 
 returns : tie.Need-returns Inv-loop μ-loop
 returns c =

@@ -4,7 +4,8 @@ use native.Mathlib.Omega.{arith}
 use mathlib.Core.Path.{_≡_}
 use lib.ListN.{length}
 use Rattle.modes.specs.Xts.{blockDec, nextTweak, xtsAesDec}
-use Rattle.modes.proofs.BlockLoop.{Going, going-start, going-turn, going-end}
+use Rattle.modes.specs.Walk.{Going}
+use Rattle.modes.proofs.BlockLoop.{going-start, going-turn, going-end}
 use borrow.Author.Needs.{needs}
 use Rattle.modes.proofs.xts.decrypt.Statement.{statement}
 use Rattle.modes.proofs.xts.decrypt.Tie as tie
@@ -19,7 +20,10 @@ loop-holds : tie.Need-loop-holds Inv-loop μ-loop
 loop-holds c = (omega arith, omega arith, going-start _ _ _ _)
 
 loop-again : tie.Need-loop-again Inv-loop μ-loop
-loop-again c = (omega arith, omega arith, going-turn _ _ _ _ _ _ _ _ _ _ _ (c .before .before .before .before .before .before .before .before .before .loop .inv .2) (c .before .before .before .before .before .before .load .ensures) (c .before .before .before .before .before .block-dec .ensures) (c .before .before .before .store .ensures) (c .times-alpha .ensures))
+loop-again c =
+    let loaded = c .before .before .before .before .before .before in
+    let loop = loaded .before .before .before .loop in
+    (omega arith, omega arith, going-turn _ _ _ _ _ _ _ _ _ _ _ (loop .inv .2) (loaded .load .ensures) (c .before .before .before .before .before .block-dec .ensures) (c .before .before .before .store .ensures) (c .times-alpha .ensures))
 
 returns : tie.Need-returns Inv-loop μ-loop
 unfolding xtsAesDec
