@@ -9,9 +9,12 @@ use Rattle.label_printer.proofs.block_back.Tie as tie
 
 returns : tie.Need-returns
 returns c =
-    back (xtsEncrypt (now (c .before .before .before .before .before .before .before .before .before .before .args .key)) (c .before .before .before .before .before .before .before .before .before .before .args .block-number) (now (c .before .before .before .before .before .before .before .before .before .before .args .block))) (xtsDecrypt (now (c .before .before .before .before .before .before .before .before .before .before .args .key)) (c .before .before .before .before .before .before .before .before .before .before .args .block-number)) _ _ _ _
-    (xtsDecrypt-xtsEncrypt (now (c .before .before .before .before .before .before .before .before .before .before .args .key)) (c .before .before .before .before .before .before .before .before .before .before .args .block-number) (now (c .before .before .before .before .before .before .before .before .before .before .args .block)) (λ i. (c .before .before .before .before .before .before .before .before .before .shared-slice-known .given i) .fits) (λ i. (c .before .before .before .before .before .before .before .before .slice-known .given i) .fits)) (buffer-left _ _ _ (c .before .before .before .before .before .before .xts-encrypt .ensures)) (c .before .before .xts-decrypt .ensures)
+    let called = c .before .before .before .before .before .before in
+    let known = called .before .before in
+    let s = known .before .before .args in
+    back (xtsEncrypt (now (s .key)) (s .block-number) (now (s .block))) (xtsDecrypt (now (s .key)) (s .block-number)) _ _ _ _
+    (xtsDecrypt-xtsEncrypt (now (s .key)) (s .block-number) (now (s .block)) (λ i. (known .before .shared-slice-known .given i) .fits) (λ i. (known .slice-known .given i) .fits))
+    (buffer-left _ _ _ (called .xts-encrypt .ensures)) (c .before .before .xts-decrypt .ensures)
 
 pub block-back-spec : {M : Type 1} → statement M
-block-back-spec =
-    tie.close (tie.spec (λ c κs. search needs) (λ c κs. search needs) (λ c. search needs) returns)
+block-back-spec = tie.close (tie.spec (λ c κs. search needs) (λ c κs. search needs) (λ c. search needs) returns)

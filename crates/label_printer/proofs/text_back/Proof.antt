@@ -9,8 +9,12 @@ use Rattle.label_printer.proofs.text_back.Tie as tie
 
 returns : tie.Need-returns
 returns c =
-    back (ctsEncrypt (now (c .before .before .before .before .before .before .before .before .before .before .args .key)) (now (c .before .before .before .before .before .before .before .before .before .before .args .text))) (ctsDecrypt (now (c .before .before .before .before .before .before .before .before .before .before .args .key))) _ _ _ _
-    (ctsDecrypt-ctsEncrypt (now (c .before .before .before .before .before .before .before .before .before .before .args .key)) (now (c .before .before .before .before .before .before .before .before .before .before .args .text)) (λ i. (c .before .before .before .before .before .before .before .before .before .shared-slice-known .given i) .fits) (λ i. (c .before .before .before .before .before .before .before .before .slice-known .given i) .fits)) (buffer-left _ _ _ (c .before .before .before .before .before .before .cts-encrypt .ensures)) (c .before .before .cts-decrypt .ensures)
+    let called = c .before .before .before .before .before .before in
+    let known = called .before .before in
+    let s = known .before .before .args in
+    back (ctsEncrypt (now (s .key)) (now (s .text))) (ctsDecrypt (now (s .key))) _ _ _ _
+    (ctsDecrypt-ctsEncrypt (now (s .key)) (now (s .text)) (λ i. (known .before .shared-slice-known .given i) .fits) (λ i. (known .slice-known .given i) .fits))
+    (buffer-left _ _ _ (called .cts-encrypt .ensures)) (c .before .before .cts-decrypt .ensures)
 
 pub text-back-spec : {M : Type 1} → statement M
 text-back-spec = tie.close (tie.spec (λ c κs. search needs) (λ c κs. search needs) (λ c. search needs) returns)
