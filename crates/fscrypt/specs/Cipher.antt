@@ -16,7 +16,7 @@ pub record Cipher : Type 0 where
   pub seal : ℕ → Bytes → ℕ → Bytes → Bytes
   pub unseal : ℕ → Bytes → ℕ → Bytes → Bytes
 
--- lengths are kept, bytes stay bytes, and what was encrypted decrypts
+-- lengths are kept, bytes stay bytes, and what was encrypted decrypts; of names also the other way round
 pub record Lawful (C : Cipher) : Type 0 where
   pub length-derive : (k x : Bytes) → length (C .derive k x) ≡ length k
   pub bytes-derive : (k x : Bytes) → ByteList k → ByteList x → ByteList (C .derive k x)
@@ -24,6 +24,7 @@ pub record Lawful (C : Cipher) : Type 0 where
   pub bytes-encryptName : (k t : Bytes) → ByteList k → ByteList t → ByteList (C .encryptName k t)
   pub length-decryptName : (k t : Bytes) → length (C .decryptName k t) ≡ length t
   pub decrypt-encrypt : (k t : Bytes) → ByteList k → ByteList t → C .decryptName k (C .encryptName k t) ≡ t
+  pub encrypt-decrypt : (k t : Bytes) → ByteList k → ByteList t → C .encryptName k (C .decryptName k t) ≡ t
   pub length-seal : (mode : ℕ) (k : Bytes) (n : ℕ) (b : Bytes) → length (C .seal mode k n b) ≡ length b
   pub length-unseal : (mode : ℕ) (k : Bytes) (n : ℕ) (b : Bytes) → length (C .unseal mode k n b) ≡ length b
   pub unseal-seal : (mode : ℕ) (k : Bytes) (n : ℕ) (b : Bytes) → ByteList k → ByteList b → C .unseal mode k n (C .seal mode k n b) ≡ b
