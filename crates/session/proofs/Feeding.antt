@@ -6,9 +6,9 @@ use native.Mathlib.Omega.{arith}
 use mathlib.Core.Path.{_≡_, refl, sym, _∙_, ap}
 use mathlib.Core.Bool.{Bool, true, false, cond}
 use mathlib.Core.List.{[], _∷_, _++_, append-nil, append-assoc}
-use lib.ListN.{length, take, drop, getD, length-take}
+use lib.ListN.{length, take, drop, getD}
 use lib.Seq.{append-snoc, take-suc, take-add, take-all}
-use lib.Dec.{eqb, ltb}
+use lib.Dec.{ltb}
 use borrow.Rule.Slice.PartAt.{part-to-end}
 use borrow.Author.Tests.{ltb-true, ltb-false}
 use Rattle.lists.specs.Bytes.{Bytes, firstAt}
@@ -18,37 +18,23 @@ use Rattle.volume.specs.Volume.{fresh}
 use Rattle.volume.specs.declared.Volume.{Volume}
 use Rattle.script.specs.Cutting.{isNewline, hasNewline, beforeNewline, upToNewline, keptOn, kept}
 use Rattle.script.proofs.Keeping.{keptOn-length, keptOn-short, keptOn-append}
-use Rattle.session.specs.Answers.{Said, saying, malformed}
-use Rattle.session.specs.Lines.{withoutReturn, isSkipped, ended, answered, HasRoom, lineOutcome, answeredIn}
+use Rattle.lines.specs.Answers.{Said}
+use Rattle.lines.specs.Lines.{answered, HasRoom, lineOutcome, answeredIn}
 use Rattle.session.specs.Input.{Session, session, begun, ending, fed, saidAt, fedAll, saidAll, transcript, Held, Begun, Feeds, Says, Ends, Ran}
-use Rattle.session.specs.declared.LineAnswer.{LineAnswer}
-use Rattle.session.proofs.Answering.{no-return-none, overlong, skips}
-use Rattle.session.proofs.Room.{replied-in}
-use Rattle.session.proofs.Skipping.{skipped-none, skipped-kept}
+use Rattle.lines.specs.declared.LineAnswer.{LineAnswer}
+use Rattle.lines.proofs.Answering.{answers-none, overlong-alike}
+use Rattle.lines.proofs.Room.{replied-in}
+use Rattle.session.proofs.Skipping.{skipped-kept}
 
-withoutReturn-least : (l : Bytes) → length l - 1 ≤ length (withoutReturn l)
-unfolding withoutReturn
-withoutReturn-least l = go (eqb (getD l (length l - 1) 0) 13)
+-- what a buffer keeps of a line is answered as the line
+pub answered-kept : (v : Volume) (room : ℕ) → 131074 ≤ room → (l : Bytes) → answered v (kept room l) ≡ answered v l
+answered-kept v room h l = go (ltb room (length l)) refl
   where
-    go : (t : Bool) → length l - 1 ≤ length (cond t (take (length l - 1) l) l)
-    go true = omega (arith, length-take (length l - 1) l)
-    go false = omega arith
-
-module _ (v : Volume) where
-  answered-overlong : (l : Bytes) → 131073 < length l → answered v l ≡ cond (isSkipped (withoutReturn l)) (saying [] v) (ended (malformed v))
-  unfolding answered
-  answered-overlong l h = ap (λ (s : Said). cond (isSkipped (withoutReturn l)) (saying [] v) (ended s)) (sym (overlong v (withoutReturn l) (omega (arith, withoutReturn-least l))))
-
-  pub answered-kept : (room : ℕ) → 131074 ≤ room → (l : Bytes) → answered v (kept room l) ≡ answered v l
-  answered-kept room h l = go (ltb room (length l)) refl
-    where
-      go : (t : Bool) → ltb room (length l) ≡ t → answered v (kept room l) ≡ answered v l
-      go true e =
-          let k : room < length l = ltb-true _ _ e in
-          answered-overlong (kept room l) (omega (arith, keptOn-length room [] l (omega arith)))
-          ∙ ap (λ (t : Bool). cond t (saying [] v) (ended (malformed v))) (skipped-kept room (omega arith) l)
-          ∙ sym (answered-overlong l (omega arith))
-      go false e = let k : length l ≤ room = ltb-false _ _ e in ap (answered v) (keptOn-short room [] l (omega arith))
+    go : (t : Bool) → ltb room (length l) ≡ t → answered v (kept room l) ≡ answered v l
+    go true e =
+        let k : room < length l = ltb-true _ _ e in
+        overlong-alike v (kept room l) l (omega (arith, keptOn-length room [] l (omega arith))) (omega arith) (skipped-kept room (omega arith) l)
+    go false e = let k : length l ≤ room = ltb-false _ _ e in ap (answered v) (keptOn-short room [] l (omega arith))
 
 -- ---- bytes in parts
 
@@ -194,5 +180,5 @@ unfolding transcript
 transcript-whole t h =
     let v = fedAll begun t .volume in
     ap (λ (l : Bytes). saidAll begun t ++ (answered v l .said)) h
-    ∙ ap (λ (s : Said). saidAll begun t ++ s .said) (sym (skips v [] [] (no-return-none [] refl) skipped-none))
+    ∙ ap (λ (s : Said). saidAll begun t ++ s .said) (answers-none v)
     ∙ append-nil (saidAll begun t)

@@ -13,8 +13,8 @@ use Rattle.lists.specs.Bytes.{Bytes, firstAt}
 use Rattle.script.specs.Words.{isBlank, trimmed, firstWord}
 use Rattle.script.specs.Cutting.{lastOf, withLast, keep, keptOn, kept}
 use Rattle.script.proofs.Keeping.{keep-room, keep-blank, keep-return, keep-word}
-use Rattle.session.specs.Lines.{withoutReturn, isSkipped}
-use Rattle.session.proofs.Answering.{no-return-none}
+use Rattle.lines.specs.Lines.{withoutReturn, isSkipped}
+use Rattle.lines.proofs.Answering.{no-return-none, empty-skipped}
 
 -- what the bytes so far of a line have: blanks alone, a carriage return after them, a comment, another word
 data Look : Type 0 where
@@ -59,10 +59,6 @@ module _ (b : ℕ) (s : Bytes) where
   unfolding isSkipped firstWord trimmed firstAt
   skipped-word h = let e : eqb (suc (length (take (firstAt isBlank s) s))) 0 ≡ false = ne-eqb (suc (length (take (firstAt isBlank s) s))) 0 (λ (e : suc (length (take (firstAt isBlank s) s)) ≡ 0). omega arith) in rw (h, h, e)
 
-pub skipped-none : isSkipped [] ≡ true
-unfolding isSkipped firstWord trimmed firstAt
-skipped-none = refl
-
 without-one : (b : ℕ) → withoutReturn (b ∷ []) ≡ cond (eqb b 13) [] (b ∷ [])
 unfolding withoutReturn
 without-one b = refl
@@ -79,14 +75,14 @@ without-more b c s =
     go false = refl
 
 skipped-look : (l : Bytes) → isSkipped (withoutReturn l) ≡ skips (look bare l)
-skipped-look [] = ap isSkipped (sym (no-return-none [] refl)) ∙ skipped-none
+skipped-look [] = ap isSkipped (sym (no-return-none [] refl)) ∙ empty-skipped
 skipped-look (b ∷ []) = ap isSkipped (without-one b) ∙ go (isBlank b) (eqb b 35) (eqb b 13) refl refl
   where
     go : (t u w : Bool) → isBlank b ≡ t → eqb b 35 ≡ u → isSkipped (cond w [] (b ∷ [])) ≡ skips (cond t bare (cond u comment (cond w returned word)))
-    go true u true e f = skipped-none
-    go false true true e f = skipped-none
-    go false false true e f = skipped-none
-    go true u false e f = skipped-blank b [] e ∙ skipped-none
+    go true u true e f = empty-skipped
+    go false true true e f = empty-skipped
+    go false false true e f = empty-skipped
+    go true u false e f = skipped-blank b [] e ∙ empty-skipped
     go false true false e f = skipped-word b [] e ∙ f
     go false false false e f = skipped-word b [] e ∙ f
 skipped-look (b ∷ c ∷ s) = ap isSkipped (without-more b c s) ∙ go (isBlank b) (eqb b 35) (eqb b 13) refl refl (skipped-look (c ∷ s))

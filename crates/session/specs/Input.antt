@@ -8,9 +8,9 @@ use Rattle.lists.specs.Bytes.{Bytes}
 use Rattle.volume.specs.Volume.{fresh}
 use Rattle.volume.specs.declared.Volume.{Volume}
 use Rattle.script.specs.Cutting.{isNewline, kept}
-use Rattle.session.specs.Answers.{Said}
-use Rattle.session.specs.Lines.{answered}
-use Rattle.session.specs.declared.LineAnswer.{LineAnswer}
+use Rattle.lines.specs.Answers.{Said}
+use Rattle.lines.specs.Lines.{answered}
+use Rattle.lines.specs.declared.LineAnswer.{LineAnswer}
 
 -- the volume, and the bytes so far of the line that has begun
 pub record Session : Type 0 where

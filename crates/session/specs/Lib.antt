@@ -1,4 +1,2 @@
--- The definitions of session: what is answered to a line of a request script, and to an input.
-pub mod Answers
-pub mod Lines
+-- The definitions of session: what is answered to an input.
 pub mod Input

@@ -1,7 +1,6 @@
 // A script read from a file descriptor, line by line; each answer is written to standard output as soon as its line has come.
-use crate::LineAnswer;
-use crate::lines;
 use libc::STDOUT_FILENO;
+use lines::LineAnswer;
 use script::cutting;
 use volume::Volume;
 ghost use mathlib.Core.Path.{_≡_};

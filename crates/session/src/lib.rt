@@ -1,23 +1,5 @@
-// A session of the request script: a line's answer is what specs/Lines.antt says, its text and the volume after it, and an input's what specs/Input.antt says.
-// `answer_line` takes any line and any buffers, and `run` any file descriptor: neither asks anything of its caller.
-mod answers;
-mod calls;
+// A request script as an input: what is said to it is what specs/Input.antt says, line by line. What is said to a line is the crate lines' matter.
+// `run` takes any file descriptor: it asks nothing of its caller.
 mod input;
-mod lines;
 
 pub use input::run;
-pub use lines::answer_line;
-use volume::Volume;
-
-// What is said to a line: so many bytes at the start of the output buffer, and the volume then.
-struct Response {
-    len: usize,
-    volume: Volume,
-}
-
-// The same, with whether the buffers had room for the line. Where they had not, nothing is said, and the volume and the buffers are as they were.
-pub struct LineAnswer {
-    pub fits: bool,
-    pub len: usize,
-    pub volume: Volume,
-}

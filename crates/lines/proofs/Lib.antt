@@ -1,0 +1,5 @@
+-- The laws of lines.
+pub mod Texts
+pub mod Saying
+pub mod Answering
+pub mod Room

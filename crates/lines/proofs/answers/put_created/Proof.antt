@@ -1,0 +1,32 @@
+-- `put_created`: the numbers, or the refusal. Assumes nothing.
+use mathlib.Core.Path.{sym, ap}
+use mathlib.Core.Bool.{false}
+use mathlib.Core.List.{[]}
+use Rattle.volume.specs.Request.{createAnswered}
+use Rattle.volume.specs.declared.CreateAnswer.{CreateAnswer}
+use Rattle.lines.specs.Answers.{answerText}
+use Rattle.lines.proofs.Texts.{rewritten}
+use borrow.Author.Needs.{needs}
+use Rattle.lines.proofs.answers.put_created.Statement.{statement}
+use Rattle.lines.proofs.answers.put_created.Tie as tie
+
+returns : tie.Need-returns
+unfolding answerText
+returns c = rw (c .before .before .before .before .before .a .given .1) (c .before .before .put-numbers .ensures)
+
+returns-2 : tie.Need-returns-2
+unfolding answerText
+returns-2 c = rw (c .before .before .before .before .before .a2 .given .1) (c .before .before .put-refusal .ensures)
+
+pub put-created-spec : {M : Type 1} → statement M
+put-created-spec =
+    tie.close
+    (tie.spec
+    (λ c. search needs)
+    (λ c κs. search needs)
+    (λ c. search needs)
+    (λ c κs. search needs)
+    (λ c. search needs)
+    returns
+    (λ c. search needs)
+    returns-2)

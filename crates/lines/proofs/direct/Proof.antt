@@ -1,0 +1,38 @@
+-- `direct`: the request, or the word for none. Assumes nothing.
+use native.Mathlib.Omega.{arith}
+use mathlib.Core.Path.{sym}
+use denote.Ref.{now}
+use lib.ListN.{length-take}
+use lib.Seq.{length-take-le}
+use borrow.Author.Tests.{not-true, not-false}
+use Rattle.lines.proofs.Saying.{same-said}
+use Rattle.lines.proofs.Answering.{directs-not, directs-to}
+use borrow.Author.Needs.{needs}
+use Rattle.lines.proofs.direct.Statement.{statement}
+use Rattle.lines.proofs.direct.Tie as tie
+
+returns : tie.Need-returns
+returns c = let s = c .before .before .before .before .before .before .before .before .args in same-said (now (s .out)) _ _ _ _ _ (c .before .before .malformed-line .ensures) (directs-not (s .v) (s .verb) (s .a) _ (not-true _ (c .before .before .before .before .if1 .taken)))
+
+slice-aggregate-perform : tie.Need-slice-aggregate-perform
+slice-aggregate-perform c = sym (length-take-le _ _ (c .before .before .before .before .before .pre .1))
+
+perform-requires : tie.Need-perform-requires
+perform-requires c κs = let s = c .before .before .before .before .before .before in (omega (arith, s .pre .0), omega (arith, s .pre .0, length-take (s .args .a .len) (now (s .args .beside))))
+
+returns-2 : tie.Need-returns-2
+returns-2 c = let s = c .before .before .before .before .before .before .before .before .before .before .before .args in same-said (now (s .out)) _ _ _ _ _ (c .before .before .before .before .perform .ensures) (directs-to (s .v) (s .verb) (s .a) _ (not-false _ (c .before .before .before .before .before .before .before .if1 .left)))
+
+pub direct-spec : {M : Type 1} → statement M
+direct-spec =
+    tie.close
+    (tie.spec
+    (λ c κs. search needs)
+    (λ c. search needs)
+    returns
+    (λ c. search needs)
+    slice-aggregate-perform
+    perform-requires
+    (λ c. search needs)
+    (λ c. search needs)
+    returns-2)

@@ -1,0 +1,116 @@
+-- What is answered to a line, the request script's "Lines and words". Quotations are the request script's. Assumes nothing.
+use Prim.Native.Nat.{ℕ, _+_, _*_, _-_, _≤_}
+use mathlib.Core.Path.{_≡_}
+use mathlib.Core.Bool.{Bool, true, false, cond, _&&_, _||_}
+use mathlib.Core.List.{[], _++_}
+use lib.ListN.{length, getD, take}
+use lib.Dec.{eqb, leb, ltb}
+use Rattle.lists.specs.Bytes.{Bytes, zeros, laidOver}
+use Rattle.fscrypt.specs.Cipher.{fscrypt}
+use Rattle.volume.specs.Request.{addKey, removeKey, setPolicy, getPolicy, create, link, rename, exchange, remove, find, show, seal, unseal}
+use Rattle.volume.specs.Step.{step}
+use Rattle.volume.specs.declared.Volume.{Volume}
+use Rattle.ids.specs.declared.InodeNumber.{InodeNumber}
+use Rattle.ids.specs.declared.EntryNumber.{EntryNumber}
+use Rattle.script.specs.Text.{text}
+use Rattle.script.specs.Words.{firstWord, afterWord}
+use Rattle.script.specs.Commands.{verbOf, shapeOf, readWords}
+use Rattle.script.specs.declared.Verb.{Verb}
+use Rattle.script.specs.declared.Verb.the-variants.{AddKey, RemoveKey, SetPolicy, GetPolicy, Create, Link, Rename, Exchange, Remove, Find, Show, Seal, Open, Unknown}
+use Rattle.script.specs.declared.Args.{Args}
+use Rattle.lines.specs.Answers.{Said, saying, told, malformed, Written}
+use Rattle.lines.specs.declared.Response.{Response}
+use Rattle.lines.specs.declared.LineAnswer.{LineAnswer}
+
+abbrev pub inode : ℕ → InodeNumber
+inode n = record { 0 = n }
+
+abbrev pub entry : ℕ → EntryNumber
+entry n = record { 0 = n }
+
+-- each request, made of its words: the first and second number, the descriptor, the nonce, and the bytes of KEY, POLICY, NAME or BLOCK;
+-- "SIZE is the size of the name buffer lent, .., at most 4096 (more is malformed)"
+unfoldable pub respond : Volume → Verb → Args → Bytes → Said
+respond v AddKey a t = told false (step fscrypt v (addKey (a .descriptor) t))
+respond v RemoveKey a t = told false (step fscrypt v (removeKey (a .descriptor)))
+respond v SetPolicy a t = told false (step fscrypt v (setPolicy (inode (a .first)) t (a .nonce)))
+respond v GetPolicy a t = told false (step fscrypt v (getPolicy (inode (a .first))))
+respond v Create a t = told false (step fscrypt v (create (inode (a .first)) (a .second) t (a .nonce)))
+respond v Link a t = told false (step fscrypt v (link (inode (a .first)) (inode (a .second)) t))
+respond v Rename a t = told false (step fscrypt v (rename (entry (a .first)) (inode (a .second)) t))
+respond v Exchange a t = told false (step fscrypt v (exchange (entry (a .first)) (entry (a .second))))
+respond v Remove a t = told false (step fscrypt v (remove (entry (a .first))))
+respond v Find a t = told false (step fscrypt v (find (inode (a .first)) t))
+respond v Show a t = cond (leb (a .second) 4096) (told false (step fscrypt v (show (entry (a .first)) (zeros (a .second))))) (malformed v)
+respond v Seal a t = told true (step fscrypt v (seal (inode (a .first)) (a .second) t))
+respond v Open a t = told true (step fscrypt v (unseal (inode (a .first)) (a .second) t))
+respond v Unknown a t = malformed v
+
+-- "one carriage return at the end is dropped"
+unfoldable pub withoutReturn : Bytes → Bytes
+withoutReturn l = cond (eqb (getD l (length l - 1) 0) 13) (take (length l - 1) l) l
+
+-- "A line with no word, and one whose first word begins with `#`, is skipped and has no answer."
+unfoldable pub isSkipped : Bytes → Bool
+isSkipped l = eqb (length (firstWord l)) 0 || eqb (getD (firstWord l) 0 0) 35
+
+-- "A line of more than 131,072 bytes (newline and carriage return not counted)"
+abbrev pub isOverlong : Bytes → Bool
+isOverlong l = ltb 131072 (length l)
+
+-- the request that the words make, where each is what it should be
+abbrev pub directed : Volume → Verb → Args → Bytes → Said
+directed v verb a t = cond (a .good) (respond v verb a t) (malformed v)
+
+-- a line that is not skipped
+unfoldable pub commanded : Volume → Bytes → Said
+commanded v l =
+    let verb = verbOf (firstWord l) in
+    let words = readWords (shapeOf verb) (afterWord l) in
+    cond (isOverlong l) (malformed v) (directed v verb (words .args) (words .bytes))
+
+-- an answer ends with a newline
+abbrev pub ended : Said → Said
+ended s = saying (s .said ++ text "\n") (s .volume)
+
+unfoldable pub answered : Volume → Bytes → Said
+answered v line = let l = withoutReturn line in cond (isSkipped l) (saying [] v) (ended (commanded v l))
+
+-- what is said stands at the start of the output buffer, and past it the buffer is as it was
+abbrev pub Replies : Bytes → Bytes → Response → Said → Type 0
+Replies before after r s = (r .volume ≡ s .volume) × (r .len ≡ length (s .said)) × (after ≡ laidOver before (s .said)) × (length (s .said) ≤ length before)
+
+-- the same, with room for one byte more
+abbrev pub Responds : Bytes → Bytes → Response → Said → Type 0
+Responds before after r s = (r .volume ≡ s .volume) × Written before after (r .len) (s .said)
+
+-- ---- a line and any buffers
+
+-- the buffers lent have room for a line of so many bytes: one for the bytes that the line spells, and one for the answer
+abbrev pub HasRoom : ℕ → ℕ → ℕ → Type 0
+HasRoom line beside out = (line ≤ beside) × (1000 + 2 * line ≤ out)
+
+-- the same, as a test
+abbrev pub hasRoom : ℕ → ℕ → ℕ → Bool
+hasRoom line beside out = leb line beside && leb (1000 + 2 * line) out
+
+-- the answer to a line, and what the two buffers hold then
+pub record LineOutcome : Type 0 where
+  pub answer : LineAnswer
+  pub beside : Bytes
+  pub out : Bytes
+
+abbrev pub lineOutcome : LineAnswer → Bytes → Bytes → LineOutcome
+lineOutcome a beside out = record { answer = a; beside = beside; out = out }
+
+-- where there is room: what is said stands at the start of `out`, and as many bytes of `beside` as the line has are zeros; past these the two are as they were
+abbrev pub roomOutcome : Said → ℕ → Bytes → Bytes → LineOutcome
+roomOutcome s n beside out = lineOutcome (record { fits = true; len = length (s .said); volume = s .volume }) (laidOver beside (zeros n)) (laidOver out (s .said))
+
+-- where there is not: nothing is done
+abbrev pub noRoomOutcome : Volume → Bytes → Bytes → LineOutcome
+noRoomOutcome v beside out = lineOutcome (record { fits = false; len = 0; volume = v }) beside out
+
+unfoldable pub answeredIn : Volume → Bytes → Bytes → Bytes → LineOutcome
+answeredIn v line beside out =
+    cond (hasRoom (length line) (length beside) (length out)) (roomOutcome (answered v line) (length line) beside out) (noRoomOutcome v beside out)
