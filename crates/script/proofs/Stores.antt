@@ -17,13 +17,9 @@ sets-two b at s k x y e =
     ∙ ap (λ (n : ℕ). sets (sets b at s) (at + n) (x ∷ y ∷ [])) e
     ∙ sets-more b at s (x ∷ y ∷ [])
 
--- a text after a text, where each position is known
-pub then-sets : (b c d : Bytes) (at m n : ℕ) (s t : Bytes) → m ≡ at + length s → c ≡ sets b at s → n ≡ m + length t → d ≡ sets c m t → (n ≡ at + length (s ++ t)) × (d ≡ sets b at (s ++ t))
-then-sets b c d at m n s t h e k f = (
+-- a text, and a text after it
+pub then-sets : {c d : Bytes} {m n : ℕ} (b : Bytes) (at : ℕ) (s t : Bytes) → (m ≡ at + length s) × (c ≡ sets b at s) → (n ≡ m + length t) × (d ≡ sets c m t) → (n ≡ at + length (s ++ t)) × (d ≡ sets b at (s ++ t))
+then-sets {m = m} b at s t h k = (
   omega (arith, length-append s t),
-  f ∙ ap (λ (x : Bytes). sets x m t) e ∙ ap (λ (i : ℕ). sets (sets b at s) i t) h ∙ sets-more b at s t,
+  k .1 ∙ ap (λ (x : Bytes). sets x m t) (h .1) ∙ ap (λ (i : ℕ). sets (sets b at s) i t) (h .0) ∙ sets-more b at s t,
 )
-
--- what was stored, said in another way
-pub same-sets : (b c : Bytes) (at n : ℕ) (s t : Bytes) → (n ≡ at + length s) × (c ≡ sets b at s) → s ≡ t → (n ≡ at + length t) × (c ≡ sets b at t)
-same-sets b c at n s t h e = (h .0 ∙ ap (λ (x : Bytes). at + length x) e, h .1 ∙ ap (sets b at) e)

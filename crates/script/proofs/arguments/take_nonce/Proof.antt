@@ -19,7 +19,11 @@ nonce-in-requires : tie.Need-nonce-in-requires
 nonce-in-requires c κs = isBytes-count 16 _ (sym (c .before .is-bytes .ensures) ∙ not-false _ (c .if2 .left))
 
 returns-3 : tie.Need-returns-3
-returns-3 c = c .with-nonce2 .ensures ∙ ap (withNonce (c .before .before .before .before .before .before .before .before .args .a)) (c .before .nonce-in .ensures) ∙ nonce-is _ _ (sym (c .before .before .before .before .before .same-bytes .ensures) ∙ c .before .before .before .before .if1 .left) (sym (c .before .before .before .is-bytes .ensures) ∙ not-false _ (c .before .before .if2 .left))
+returns-3 c =
+    let s = c .before .before .before .before .before .before .before .before .args in
+    let some = sym (c .before .before .before .before .before .same-bytes .ensures) ∙ c .before .before .before .before .if1 .left in
+    let sixteen = sym (c .before .before .before .is-bytes .ensures) ∙ not-false _ (c .before .before .if2 .left) in
+    c .with-nonce2 .ensures ∙ ap (withNonce (s .a)) (c .before .nonce-in .ensures) ∙ nonce-is _ _ some sixteen
 
 pub take-nonce-spec : {M : Type 1} → statement M
 take-nonce-spec =

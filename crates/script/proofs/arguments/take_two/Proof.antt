@@ -13,10 +13,20 @@ take-word-requires : tie.Need-take-word-requires
 take-word-requires c κs = omega (arith, c .before .before .before .before .pre, ap length (c .before .first-word .ensures), firstWord-length (now (c .before .before .before .before .args .line)))
 
 take-word-requires-2 : tie.Need-take-word-requires-2
-take-word-requires-2 c κs = omega (arith, c .before .before .before .before .before .before .before .before .before .before .pre, ap length (c .before .first-word2 .ensures), firstWord-length (now (c .before .before .after-word .result)), ap length (c .before .before .after-word .ensures), afterWord-length (now (c .before .before .before .before .before .before .before .before .before .before .args .line)))
+take-word-requires-2 c κs =
+    let s = c .before .before .before .before .before .before .before .before .before .before in
+    let rest = c .before .before .after-word in
+    let word = c .before .first-word2 in
+    omega (arith, ap length (word .ensures), firstWord-length (now (rest .result)), ap length (rest .ensures), afterWord-length (now (s .args .line)))
 
 returns : tie.Need-returns
-returns c = took-two _ _ _ _ _ _ _ _ _ _ _ _ (c .before .before .before .before .before .before .before .before .before .before .first-word .ensures) (c .before .before .before .before .before .before .before .before .take-word .ensures .0) (c .before .before .before .before .before .before .before .before .take-word .ensures .1) (c .before .before .before .before .before .after-word .ensures) (c .before .before .before .before .first-word2 .ensures) (c .before .before .take-word2 .ensures .0) (c .before .before .take-word2 .ensures .1)
+returns c =
+    let word = c .before .before .before .before .before .before .before .before .before .before .first-word in
+    let one = c .before .before .before .before .before .before .before .before .take-word in
+    let rest = c .before .before .before .before .before .after-word in
+    let next = c .before .before .before .before .first-word2 in
+    let two = c .before .before .take-word2 in
+    took-two _ _ _ _ _ _ _ _ _ _ _ _ (word .ensures) (one .ensures .0) (one .ensures .1) (rest .ensures) (next .ensures) (two .ensures .0) (two .ensures .1)
 
 pub take-two-spec : {M : Type 1} → statement M
 take-two-spec =

@@ -1,9 +1,5 @@
 -- `take_word`: a function for each sort. Assumes nothing.
-use mathlib.Core.Path.{refl, sym, _∙_, ap}
-use denote.Ref.{now}
-use lib.ListN.{take}
-use Rattle.script.specs.declared.Sort.{Sort}
-use Rattle.script.specs.Commands.{taken, takenText}
+use mathlib.Core.Path.{refl}
 use Rattle.script.proofs.Taking.{took}
 use borrow.Author.Needs.{needs}
 use Rattle.script.proofs.arguments.take_word.Statement.{statement}
@@ -16,7 +12,7 @@ returns-2 : tie.Need-returns-2
 returns-2 c = took _ _ _ _ _ _ (c .before .enum-told2 .given .1) refl (c .take-second .ensures)
 
 returns-3 : tie.Need-returns-3
-returns-3 c = let s = c .before .before .before .before .before .before .before .before .args in let t = sym (c .before .before .before .before .enum-told3 .given .1) in (c .before .before .take-text .ensures .0 ∙ ap (λ (x : Sort). taken (s .a) x (now (s .w))) t, c .before .before .take-text .ensures .1 ∙ ap (λ (x : Sort). takenText (take (s .a .len) (now (s .beside))) x (now (s .w))) t)
+returns-3 c = rw (c .before .before .before .before .enum-told3 .given .1) (c .before .before .take-text .ensures)
 
 returns-4 : tie.Need-returns-4
 returns-4 c = took _ _ _ _ _ _ (c .before .enum-told4 .given .1) refl (c .take-descriptor .ensures)

@@ -14,10 +14,16 @@ returns-2 : tie.Need-returns-2
 returns-2 c = let s = c .before .before .before .before .before in let a = s .args in (s .pre .0, store-blank (now (a .line)) (a .used) (a .b) (c .before .before .before .if1 .left) (sym (c .before .is-blank .ensures) ∙ c .if2 .taken))
 
 returns-3 : tie.Need-returns-3
-returns-3 c = let s = c .before .before .before .before .before .before in let a = s .args in (s .pre .0, store-return (now (a .line)) (a .used) (a .b) (c .before .before .before .before .if1 .left) (sym (c .before .before .is-blank .ensures) ∙ c .before .if2 .left) (c .if3 .taken))
+returns-3 c =
+    let s = c .before .before .before .before .before .before in
+    let a = s .args in
+    (s .pre .0, store-return (now (a .line)) (a .used) (a .b) (c .before .before .before .before .if1 .left) (sym (c .before .before .is-blank .ensures) ∙ c .before .if2 .left) (c .if3 .taken))
 
 returns-4 : tie.Need-returns-4
-returns-4 c = let s = c .before .before .before .before .before .before in let a = s .args in (s .pre .0, store-word (now (a .line)) (a .used) (a .b) (c .before .before .before .before .if1 .left) (sym (c .before .before .is-blank .ensures) ∙ c .before .if2 .left) (c .if3 .left))
+returns-4 c =
+    let s = c .before .before .before .before .before .before in
+    let a = s .args in
+    (s .pre .0, store-word (now (a .line)) (a .used) (a .b) (c .before .before .before .before .if1 .left) (sym (c .before .before .is-blank .ensures) ∙ c .before .if2 .left) (c .if3 .left))
 
 pub add-byte-spec : {M : Type 1} → statement M
 add-byte-spec =

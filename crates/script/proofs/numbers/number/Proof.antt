@@ -31,10 +31,19 @@ sub-wide : tie.Need-sub-wide Inv-loop μ-loop
 sub-wide c = within-low 48 57 _ (sym (c .before .is-digit .ensures) ∙ not-false _ (c .if2 .left))
 
 returns-3 : tie.Need-returns-3 Inv-loop μ-loop
-returns-3 c = let l = c .before .before .before .before .before .before .loop in sym (l .inv .1 ∙ digits-large _ (l .i) (l .n) (omega arith) (omega (arith, c .before .wide .ensures)))
+returns-3 c =
+    let l = c .before .before .before .before .before .before .loop in
+    sym (l .inv .1 ∙ digits-large _ (l .i) (l .n) (omega arith) (omega (arith, c .before .wide .ensures)))
 
 loop-again : tie.Need-loop-again Inv-loop μ-loop
-loop-again c = let l = c .before .before .before .before .before .before .loop in (omega arith, l .inv .1 ∙ digits-next _ (l .i) (l .n) (omega arith) (sym (c .before .before .before .is-digit .ensures) ∙ not-false _ (c .before .before .if2 .left)) (omega (arith, c .before .wide .ensures)) ∙ ap (λ (k : ℕ). digitsFrom (l .n * 10 + k) (drop (l .i + 1) (c .before .before .before .before .before .before .before .before .before .args .s .now))) (sym (c .before .wide .ensures)))
+loop-again c =
+    let s = now (c .before .before .before .before .before .before .before .before .before .args .s) in
+    let l = c .before .before .before .before .before .before .loop in
+    let digit = sym (c .before .before .before .is-digit .ensures) ∙ not-false _ (c .before .before .if2 .left) in
+    let wide = c .before .wide .ensures in (
+      omega arith,
+      l .inv .1 ∙ digits-next _ (l .i) (l .n) (omega arith) digit (omega (arith, wide)) ∙ ap (λ (k : ℕ). digitsFrom (l .n * 10 + k) (drop (l .i + 1) s)) (sym wide),
+    )
 
 returns-4 : tie.Need-returns-4 Inv-loop μ-loop
 returns-4 c = let l = c .before .loop in sym (l .inv .1 ∙ digits-end (now (c .before .before .before .before .args .s)) (l .i) (l .n) (omega arith))

@@ -1,8 +1,8 @@
 -- `put_digits`: the digits before the last, then the last. Assumes nothing.
-use mathlib.Core.Path.{refl, sym}
+use mathlib.Core.Path.{refl}
 use native.Mathlib.Omega.{arith}
 use Rattle.script.proofs.Digits.{last-none, last-one, last-more, last-length}
-use Rattle.script.proofs.Stores.{then-sets, same-sets}
+use Rattle.script.proofs.Stores.{then-sets}
 use borrow.Author.Needs.{needs}
 use Prim.Native.Nat.{ℕ, _<_, _+_, _-_, _/_, _%_}
 use mathlib.Core.List.{[], _∷_}
@@ -33,7 +33,7 @@ put-digits-returns : (t : ℕ) → put-digits-lts.Need-returns (
   put-digits-below t,
   put-digits.Post,
 ) (put-digits-at t) put-digits.Post
-put-digits-returns t c = same-sets _ _ _ _ [] _ (omega arith, refl) (sym (last-none _ _ (c .if1 .taken)))
+put-digits-returns t c = rw (last-none _ _ (c .if1 .taken)) (omega arith, refl)
 
 put-digits-cast-put-byte : (t : ℕ) → put-digits-lts.Need-cast-put-byte (
   put-byte-reads.Asked,
@@ -73,7 +73,7 @@ put-digits-returns-2 : (t : ℕ) → put-digits-lts.Need-returns-2 (
   put-digits-below t,
   put-digits.Post,
 ) (put-digits-at t) put-digits.Post
-put-digits-returns-2 t c = same-sets _ _ _ _ _ _ (c .before .before .put-byte .ensures) (sym (last-one _ _ (c .before .before .before .before .before .if1 .left) (c .before .before .before .before .if2 .taken)))
+put-digits-returns-2 t c = rw (last-one _ _ (c .before .before .before .before .before .if1 .left) (c .before .before .before .before .if2 .taken)) (c .before .before .put-byte .ensures)
 
 put-digits-sub-put-digits : (t : ℕ) → put-digits-lts.Need-sub-put-digits (
   put-byte-reads.Asked,
@@ -113,7 +113,10 @@ put-digits-put-byte-requires-2 : (t : ℕ) → put-digits-lts.Need-put-byte-requ
   put-digits-below t,
   put-digits.Post,
 ) (put-digits-at t) put-digits.Post
-put-digits-put-byte-requires-2 t c κs = let s = c .before .before .before .before .before .before .before .before in omega (arith, c .before .before .before .put-digits .ensures .0, last-length (s .args .k - 1) (s .args .n / 10), s .pre .1, c .before .before .before .before .before .before .if1 .left)
+put-digits-put-byte-requires-2 t c κs =
+    let s = c .before .before .before .before .before .before .before .before in
+    let if1 = c .before .before .before .before .before .before .if1 in
+    omega (arith, c .before .before .before .put-digits .ensures .0, last-length (s .args .k - 1) (s .args .n / 10), if1 .left)
 
 put-digits-same-length-2 : (t : ℕ) → put-digits-lts.Need-same-length-2 (
   put-byte-reads.Asked,
@@ -129,7 +132,12 @@ put-digits-returns-3 : (t : ℕ) → put-digits-lts.Need-returns-3 (
   put-digits-below t,
   put-digits.Post,
 ) (put-digits-at t) put-digits.Post
-put-digits-returns-3 t c = let s = c .before .before .before .before .before .before .before .before .before .before .before .args in same-sets _ _ _ _ _ _ (then-sets _ _ _ _ _ _ (lastDigits (s .k - 1) (s .n / 10)) ((48 + s .n % 10) ∷ []) (c .before .before .before .before .before .before .put-digits .ensures .0) (c .before .before .before .before .before .before .put-digits .ensures .1) (c .before .before .put-byte2 .ensures .0) (c .before .before .put-byte2 .ensures .1)) (sym (last-more _ _ (c .before .before .before .before .before .before .before .before .before .if1 .left) (c .before .before .before .before .before .before .before .before .if2 .left)))
+put-digits-returns-3 t c =
+    let s = c .before .before .before .before .before .before .before .before .before .before .before .args in
+    let if1 = c .before .before .before .before .before .before .before .before .before .if1 in
+    let if2 = c .before .before .before .before .before .before .before .before .if2 in
+    let others = c .before .before .before .before .before .before .put-digits in
+    rw (last-more _ _ (if1 .left) (if2 .left)) (then-sets _ _ (lastDigits (s .k - 1) (s .n / 10)) ((48 + s .n % 10) ∷ []) (others .ensures) (c .before .before .put-byte2 .ensures))
 
 pub +put-digits-spec : {M : Type 1} → statement M
 +put-digits-spec = close μ-put-digits λ t. put-digits-lts.spec (

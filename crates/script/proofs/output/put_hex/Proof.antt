@@ -28,7 +28,21 @@ slice-write-out-2 : tie.Need-slice-write-out-2 Inv-loop μ-loop
 slice-write-out-2 c = simp length-set (omega arith)
 
 loop-again : tie.Need-loop-again Inv-loop μ-loop
-loop-again c = let l = c .before .before .before .before .before .loop in let s = c .before .before .before .before .before .before .before .before .args in let e : 2 * l .i ≡ length (toHex (take (l .i) (now (s .s)))) = omega (arith, toHex-length (take (l .i) (now (s .s))), length-take (l .i) (now (s .s))) in let k : l .i < length (now (s .s)) = omega arith in (omega arith, ap (λ (x : List ℕ). set (set x (s .at + 2 * l .i) (c .before .before .high-digit .result)) (s .at + 2 * l .i + 1) (c .low-digit .result)) (l .inv .1) ∙ sets-two (now (s .out)) (s .at) (toHex (take (l .i) (now (s .s)))) (2 * l .i) (c .before .before .high-digit .result) (c .low-digit .result) e ∙ ap (sets (now (s .out)) (s .at)) (digits (now (s .s)) (l .i) (c .before .before .high-digit .ensures) (c .low-digit .ensures) k), simp length-set (l .inv .2), l .inv .3)
+loop-again c =
+    let l = c .before .before .before .before .before .loop in
+    let a = c .before .before .before .before .before .before .before .before .args in
+    let s = now (a .s) in
+    let high = c .before .before .high-digit in
+    let low = c .low-digit in
+    let e : 2 * l .i ≡ length (toHex (take (l .i) s)) = omega (arith, toHex-length (take (l .i) s), length-take (l .i) s) in
+    let k : l .i < length s = omega arith in (
+      omega arith,
+      ap (λ (x : List ℕ). set (set x (a .at + 2 * l .i) (high .result)) (a .at + 2 * l .i + 1) (low .result)) (l .inv .1)
+          ∙ sets-two (now (a .out)) (a .at) (toHex (take (l .i) s)) (2 * l .i) (high .result) (low .result) e
+          ∙ ap (sets (now (a .out)) (a .at)) (digits s (l .i) (high .ensures) (low .ensures) k),
+      simp length-set (l .inv .2),
+      l .inv .3,
+    )
   where
     digits : (s : List ℕ) (i : ℕ) {x y : ℕ} → x ≡ hexDigit (getD s i 0 / 16) → y ≡ hexDigit (getD s i 0 % 16) → i < length s → toHex (take i s) ++ (x ∷ y ∷ []) ≡ toHex (take (i + 1) s)
     digits s i e f h = rw (e, f) (sym (toHex-next s i h))

@@ -20,13 +20,24 @@ returns-2 : tie.Need-returns-2
 returns-2 c = let e = sym (c .before .is-lower-hex .ensures) ∙ c .if2 .taken in (value-small _ (sym (c .before .before .before .is-digit .ensures) ∙ c .before .before .if1 .left) e, omega (arith, within-high 97 102 (c .before .before .before .before .args .b) e))
 
 sub-result-3 : tie.Need-sub-result-3
-sub-result-3 c = omega (arith, within-low 65 70 (c .before .before .before .before .before .before .args .b) (sym (c .before .is-upper-hex .ensures) ∙ c .if3 .taken))
+sub-result-3 c =
+    let s = c .before .before .before .before .before .before .args in
+    omega (arith, within-low 65 70 (s .b) (sym (c .before .is-upper-hex .ensures) ∙ c .if3 .taken))
 
 returns-3 : tie.Need-returns-3
-returns-3 c = let e = sym (c .before .is-upper-hex .ensures) ∙ c .if3 .taken in (value-large _ (sym (c .before .before .before .before .before .is-digit .ensures) ∙ c .before .before .before .before .if1 .left) (sym (c .before .before .before .is-lower-hex .ensures) ∙ c .before .before .if2 .left) e, omega (arith, within-high 65 70 (c .before .before .before .before .before .before .args .b) e))
+returns-3 c =
+    let s = c .before .before .before .before .before .before .args in
+    let no-digit = sym (c .before .before .before .before .before .is-digit .ensures) ∙ c .before .before .before .before .if1 .left in
+    let not-lower = sym (c .before .before .before .is-lower-hex .ensures) ∙ c .before .before .if2 .left in
+    let upper = sym (c .before .is-upper-hex .ensures) ∙ c .if3 .taken in
+    (value-large _ no-digit not-lower upper, omega (arith, within-high 65 70 (s .b) upper))
 
 returns-4 : tie.Need-returns-4
-returns-4 c = (value-none _ (sym (c .before .before .before .before .before .is-digit .ensures) ∙ c .before .before .before .before .if1 .left) (sym (c .before .before .before .is-lower-hex .ensures) ∙ c .before .before .if2 .left) (sym (c .before .is-upper-hex .ensures) ∙ c .if3 .left), omega arith)
+returns-4 c =
+    let no-digit = sym (c .before .before .before .before .before .is-digit .ensures) ∙ c .before .before .before .before .if1 .left in
+    let not-lower = sym (c .before .before .before .is-lower-hex .ensures) ∙ c .before .before .if2 .left in
+    let not-upper = sym (c .before .is-upper-hex .ensures) ∙ c .if3 .left in
+    (value-none _ no-digit not-lower not-upper, omega arith)
 
 pub hex-value-spec : {M : Type 1} → statement M
 hex-value-spec =
