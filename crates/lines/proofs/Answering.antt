@@ -2,7 +2,7 @@
 -- Assumes nothing.
 use Prim.Native.Nat.{ℕ, _+_, _-_, _≤_, _<_}
 use native.Mathlib.Omega.{arith}
-use mathlib.Core.Path.{_≡_, refl, sym, _∙_, ap, subst}
+use mathlib.Core.Path.{_≡_, refl, sym, _∙_, ap}
 use mathlib.Core.Bool.{Bool, true, false, cond}
 use mathlib.Core.List.{[], _∷_}
 use lib.ListN.{length, take, getD, length-append, length-take}
@@ -67,58 +67,50 @@ empty-skipped = sym (skipped-none [] (firstWord []) refl refl)
 
 -- the lines of `commanded`
 module _ (v : Volume) (l : Bytes) where
-  pub overlong : 131072 < length l → malformed v ≡ commanded v l
+  pub overlong : 131072 < length l → commanded v l ≡ malformed v
   unfolding commanded
   overlong h = rw (lt-ltb _ _ h)
 
-  pub directs : length l ≤ 131072 → (w r t : Bytes) (verb : Verb) (s : Shape) (a : Args) → w ≡ firstWord l → verb ≡ verbOf w → s ≡ shapeOf verb → r ≡ afterWord l → a ≡ readWords s r .args → t ≡ readWords s r .bytes → directed v verb a t ≡ commanded v l
+  pub directs : length l ≤ 131072 → (w r t : Bytes) (verb : Verb) (s : Shape) (a : Args) → w ≡ firstWord l → verb ≡ verbOf w → s ≡ shapeOf verb → r ≡ afterWord l → a ≡ readWords s r .args → t ≡ readWords s r .bytes → commanded v l ≡ directed v verb a t
   unfolding commanded
-  directs h w r t verb s a e f g i j k = rw (le-ltb _ _ h) (go w r verb s a t e f g i j k)
-    where
-      go : (w r : Bytes) (verb : Verb) (s : Shape) (a : Args) (t : Bytes) → w ≡ firstWord l → verb ≡ verbOf w → s ≡ shapeOf verb → r ≡ afterWord l → a ≡ readWords s r .args → t ≡ readWords s r .bytes
-          → directed v verb a t ≡ directed v (verbOf (firstWord l)) (readWords (shapeOf (verbOf (firstWord l))) (afterWord l) .args) (readWords (shapeOf (verbOf (firstWord l))) (afterWord l) .bytes)
-      go w r verb s a t e f g i j k = cc
+  directs h w r t verb s a e f g i j k = rw (le-ltb _ _ h) cc
 
 -- the lines of `answered`
 module _ (v : Volume) (line l : Bytes) (e : l ≡ withoutReturn line) where
-  pub skips : isSkipped l ≡ true → saying [] v ≡ answered v line
+  pub skips : isSkipped l ≡ true → answered v line ≡ saying [] v
   unfolding answered
   skips h = let k : isSkipped (withoutReturn line) ≡ true = sym (ap isSkipped e) ∙ h in rw k
 
-  pub answers : isSkipped l ≡ false → ended (commanded v l) ≡ answered v line
+  pub answers : isSkipped l ≡ false → answered v line ≡ ended (commanded v l)
   unfolding answered
-  answers h = let k : isSkipped (withoutReturn line) ≡ false = sym (ap isSkipped e) ∙ h in rw k (ap (λ (x : Bytes). ended (commanded v x)) e)
+  answers h = let k : isSkipped (withoutReturn line) ≡ false = sym (ap isSkipped e) ∙ h in rw k (ap (λ (x : Bytes). ended (commanded v x)) (sym e))
 
 -- an empty line, which the last byte of an input leaves where it is a newline
 pub answers-none : (v : Volume) → answered v [] ≡ saying [] v
-answers-none v = sym (skips v [] [] (no-return-none [] refl) empty-skipped)
+answers-none v = skips v [] [] (no-return-none [] refl) empty-skipped
 
 -- of a line over the limit, also without its carriage return, no more matters than whether it is skipped
 module _ (v : Volume) where
   answers-overlong : (l : Bytes) → 131073 < length l → answered v l ≡ cond (isSkipped (withoutReturn l)) (saying [] v) (ended (malformed v))
   unfolding answered
-  answers-overlong l h = ap (λ (s : Said). cond (isSkipped (withoutReturn l)) (saying [] v) (ended s)) (sym (overlong v (withoutReturn l) (omega (arith, withoutReturn-bounds l .1))))
+  answers-overlong l h = ap (λ (s : Said). cond (isSkipped (withoutReturn l)) (saying [] v) (ended s)) (overlong v (withoutReturn l) (omega (arith, withoutReturn-bounds l .1)))
 
   pub overlong-alike : (k l : Bytes) → 131073 < length k → 131073 < length l → isSkipped (withoutReturn k) ≡ isSkipped (withoutReturn l) → answered v k ≡ answered v l
   overlong-alike k l g h e = answers-overlong k g ∙ ap (λ (t : Bool). cond t (saying [] v) (ended (malformed v))) e ∙ sym (answers-overlong l h)
 
 module _ (v : Volume) (verb : Verb) (a : Args) (t : Bytes) where
-  pub directs-to : a .good ≡ true → respond v verb a t ≡ directed v verb a t
-  directs-to e = sym (ap (λ (g : Bool). cond g (respond v verb a t) (malformed v)) e)
+  pub directs-to : a .good ≡ true → directed v verb a t ≡ respond v verb a t
+  directs-to e = ap (λ (g : Bool). cond g (respond v verb a t) (malformed v)) e
 
-  pub directs-not : a .good ≡ false → malformed v ≡ directed v verb a t
-  directs-not e = sym (ap (λ (g : Bool). cond g (respond v verb a t) (malformed v)) e)
+  pub directs-not : a .good ≡ false → directed v verb a t ≡ malformed v
+  directs-not e = ap (λ (g : Bool). cond g (respond v verb a t) (malformed v)) e
 
 -- a newline after what is said
-pub then-ended : (b c d : Bytes) (m n : ℕ) (w : Volume) (s : Said) → (w ≡ s .volume) × Written b c m (s .said) → (n ≡ m + length (text "\n")) × (d ≡ sets c m (text "\n"))
+pub then-ended : {c d : Bytes} {m n : ℕ} {w : Volume} (b : Bytes) (s : Said) → (w ≡ s .volume) × Written b c m (s .said) → (n ≡ m + length (text "\n")) × (d ≡ sets c m (text "\n"))
     → (w ≡ ended s .volume) × (n ≡ length (ended s .said)) × (d ≡ laidOver b (ended s .said)) × (length (ended s .said) ≤ length b)
-then-ended b c d m n w s h k =
+then-ended b s h k =
     let t = ended s .said in
-    let r = then-sets b c d 0 m n (s .said) (text "\n") (omega (arith, h .1 .0)) (h .1 .1) (k .0) (k .1) in
+    let r = then-sets b 0 (s .said) (text "\n") (omega (arith, h .1 .0), h .1 .1) k in
     let l = length-append (s .said) (text "\n") in
     let f : length t ≤ length b = omega (arith, h .1 .2) in
     (h .0, omega (arith, r .0), r .1 ∙ copied-over b t f, f)
-
-pub same-answer : (b d : Bytes) (n : ℕ) (w : Volume) (s t : Said) → (w ≡ s .volume) × (n ≡ length (s .said)) × (d ≡ laidOver b (s .said)) × (length (s .said) ≤ length b) → s ≡ t
-    → (w ≡ t .volume) × (n ≡ length (t .said)) × (d ≡ laidOver b (t .said)) × (length (t .said) ≤ length b)
-same-answer b d n w s t h e = subst (λ (x : Said). (w ≡ x .volume) × (n ≡ length (x .said)) × (d ≡ laidOver b (x .said)) × (length (x .said) ≤ length b)) e h

@@ -23,12 +23,12 @@ use Rattle.script.specs.Numbers.{lastDigits, decimal}
 use Rattle.lines.specs.Answers.{errnoName, errorText, Written, field, formName, shownHead, shownTail}
 
 -- a text stored from position 0 on
-pub begun : (b c : Bytes) (n : ℕ) (t : Bytes) → length t < length b → (n ≡ 0 + length t) × (c ≡ sets b 0 t) → Written b c n t
-begun b c n t k h = (omega (arith, h .0), h .1, k)
+pub begun : {c : Bytes} {n : ℕ} (b t : Bytes) → length t < length b → (n ≡ 0 + length t) × (c ≡ sets b 0 t) → Written b c n t
+begun b t k h = (omega (arith, h .0), h .1, k)
 
--- the same text, said in another way
-pub rewritten : (b c : Bytes) (n : ℕ) (s t : Bytes) → Written b c n s → s ≡ t → Written b c n t
-rewritten b c n s t h e = (h .0 ∙ ap length e, h .1 ∙ ap (sets b 0) e, omega (arith, h .2, ap length e))
+-- `ok`, and a text after it
+pub after-ok : {c d : Bytes} {m n : ℕ} (b t : Bytes) → 3 + length t < length b → (m ≡ 0 + length (text "ok ")) × (c ≡ sets b 0 (text "ok ")) → (n ≡ m + length t) × (d ≡ sets c m t) → Written b d n (text "ok " ++ t)
+after-ok b t k h g = begun b (text "ok " ++ t) (omega arith) (then-sets b 0 (text "ok ") t h g)
 
 -- a refusal as code writes it
 abbrev pub shownError : Errno → Bytes
@@ -78,7 +78,7 @@ error-length EUCLEAN = omega arith
 error-length ENOKEY = omega arith
 
 pub wrote-error : (b c : Bytes) (n : ℕ) (e is : Errno) → 1000 ≤ length b → e ≡ is → (n ≡ 0 + length (shownError is)) × (c ≡ sets b 0 (shownError is)) → Written b c n (errorText (number e))
-wrote-error b c n e is k h w = rewritten b c n (shownError is) (errorText (number e)) (begun b c n (shownError is) (omega (arith, error-length is)) w) (error-is is ∙ ap (λ (x : Errno). errorText (number x)) (sym h))
+wrote-error b c n e is k h w = rw (h, ← error-is is) (begun b (shownError is) (omega (arith, error-length is)) w)
 
 -- the name is cut to the buffer, which it fits
 pub take-least : (k : ℕ) (b : Bytes) → take (min k (length b)) b ≡ take k b
@@ -108,8 +108,8 @@ head-length s =
     omega (arith, length-append (text "ok ") (a ++ (b ++ c)), length-append a (b ++ c), length-append b c, field-length (s .parent .0), field-length (s .inode .0), field-length (s .kind))
 
 -- a text after the text at the start
-pub then-written : (b c d : Bytes) (m n : ℕ) (s t : Bytes) → length (s ++ t) < length b → Written b c m s → n ≡ m + length t → d ≡ sets c m t → Written b d n (s ++ t)
-then-written b c d m n s t k h e f = begun b d n (s ++ t) k (then-sets b c d 0 m n s t (omega (arith, h .0)) (h .1) e f)
+pub then-written : {c d : Bytes} {m n : ℕ} (b s t : Bytes) → length (s ++ t) < length b → Written b c m s → (n ≡ m + length t) × (d ≡ sets c m t) → Written b d n (s ++ t)
+then-written b s t k h g = begun b (s ++ t) k (then-sets b 0 s t (omega (arith, h .0), h .1) g)
 
 pub tail-length : (s : ShownEntry) (name : Bytes) → length (shownTail s name) ≤ 40 + 2 * length name
 tail-length s name =

@@ -12,7 +12,8 @@ use Rattle.lines.proofs.answer_line.Tie as tie
 returns : tie.Need-returns
 returns c =
     let s = c .before .before .before .before .before .before .before .args in
-    (no-room (s .v) (now (s .line)) (now (s .beside)) (now (s .out)) (failed (length (now (s .line))) (length (now (s .beside))) (length (now (s .out))) _ (c .before .has-room .ensures) (c .if1 .taken)), counted 0 (now (s .out)) (omega arith))
+    let no = failed (length (now (s .line))) (length (now (s .beside))) (length (now (s .out))) _ (c .before .has-room .ensures) (c .if1 .taken) in
+    (no-room (s .v) (now (s .line)) (now (s .beside)) (now (s .out)) no, counted 0 (now (s .out)) (omega arith))
 
 slice-relend-prefix-reply-and-clear : tie.Need-slice-relend-prefix-reply-and-clear
 slice-relend-prefix-reply-and-clear c = passed _ _ _ _ (c .before .has-room .ensures) (c .if1 .left) .0
@@ -25,14 +26,19 @@ reply-and-clear-requires c κs =
     let s = c .before .before .before .before .before .before .before .before .before .args in
     let h = passed (length (now (s .line))) (length (now (s .beside))) (length (now (s .out))) _ (c .before .before .before .has-room .ensures) (c .before .before .if1 .left) in
     let k = length-take (length (now (s .line))) (now (s .beside)) in
-    (omega (arith, h .0), omega (arith, h .1))
+    (omega arith, omega arith)
 
 returns-2 : tie.Need-returns-2
 returns-2 c =
     let s = c .before .before .before .before .before .before .before .before .before .before .before .before .before .before .before .args in
-    let a = c .before .before .before .before .before .reply-and-clear in
-    let h = passed (length (now (s .line))) (length (now (s .beside))) (length (now (s .out))) _ (c .before .before .before .before .before .before .before .before .before .has-room .ensures) (c .before .before .before .before .before .before .before .before .if1 .left) in
-    (done-in (s .v) (now (s .line)) (now (s .beside)) (now (s .out)) (a .result .len) (a .result .volume) _ (a .last .1 .1 .1 .0) h (a .ensures .0) (a .ensures .1), counted (a .result .len) (a .last .1 .1 .1 .0) (omega (arith, a .ensures .0 .1, a .ensures .0 .3, a .kept .1 .1 .1 .0)))
+    let room = c .before .before .before .before .before .before .before .before .before .has-room in
+    let if1 = c .before .before .before .before .before .before .before .before .if1 in
+    let said = c .before .before .before .before .before .reply-and-clear in
+    let out = said .last .1 .1 .1 .0 in
+    let h = passed (length (now (s .line))) (length (now (s .beside))) (length (now (s .out))) _ (room .ensures) (if1 .left) in (
+      done-in (s .v) (now (s .line)) (now (s .beside)) (now (s .out)) (said .result .len) (said .result .volume) _ out h (said .ensures .0) (said .ensures .1),
+      counted (said .result .len) out (omega (arith, said .ensures .0 .1, said .ensures .0 .3, said .kept .1 .1 .1 .0)),
+    )
 
 pub answer-line-spec : {M : Type 1} → statement M
 answer-line-spec =

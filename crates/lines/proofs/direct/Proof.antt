@@ -5,23 +5,31 @@ use denote.Ref.{now}
 use lib.ListN.{length-take}
 use lib.Seq.{length-take-le}
 use borrow.Author.Tests.{not-true, not-false}
-use Rattle.lines.proofs.Saying.{same-said}
 use Rattle.lines.proofs.Answering.{directs-not, directs-to}
 use borrow.Author.Needs.{needs}
 use Rattle.lines.proofs.direct.Statement.{statement}
 use Rattle.lines.proofs.direct.Tie as tie
 
 returns : tie.Need-returns
-returns c = let s = c .before .before .before .before .before .before .before .before .args in same-said (now (s .out)) _ _ _ _ _ (c .before .before .malformed-line .ensures) (directs-not (s .v) (s .verb) (s .a) _ (not-true _ (c .before .before .before .before .if1 .taken)))
+returns c =
+    let a = c .before .before .before .before .before .before .before .before .args .a in
+    let bad = not-true (a .good) (c .before .before .before .before .if1 .taken) in
+    rw directs-not (c .before .before .malformed-line .ensures)
 
 slice-aggregate-perform : tie.Need-slice-aggregate-perform
 slice-aggregate-perform c = sym (length-take-le _ _ (c .before .before .before .before .before .pre .1))
 
 perform-requires : tie.Need-perform-requires
-perform-requires c κs = let s = c .before .before .before .before .before .before in (omega (arith, s .pre .0), omega (arith, s .pre .0, length-take (s .args .a .len) (now (s .args .beside))))
+perform-requires c κs =
+    let s = c .before .before .before .before .before .before in
+    (omega arith, omega (arith, length-take (s .args .a .len) (now (s .args .beside))))
 
 returns-2 : tie.Need-returns-2
-returns-2 c = let s = c .before .before .before .before .before .before .before .before .before .before .before .args in same-said (now (s .out)) _ _ _ _ _ (c .before .before .before .before .perform .ensures) (directs-to (s .v) (s .verb) (s .a) _ (not-false _ (c .before .before .before .before .before .before .before .if1 .left)))
+returns-2 c =
+    let a = c .before .before .before .before .before .before .before .before .before .before .before .args .a in
+    let if1 = c .before .before .before .before .before .before .before .if1 in
+    let good = not-false (a .good) (if1 .left) in
+    rw directs-to (c .before .before .before .before .perform .ensures)
 
 pub direct-spec : {M : Type 1} → statement M
 direct-spec =

@@ -10,10 +10,10 @@ use Rattle.lines.proofs.reply_and_clear.Tie as tie
 
 returns : tie.Need-returns
 returns c =
-    let a = c .before .before .before .before .before .before .before .before .reply in
     let s = c .before .before .before .before .before .before .before .before .before .before .before .before .before .before .args in
-    let k : length (a .last .1 .1 .0) ≡ length (now (s .beside)) = omega (arith, a .kept .1 .1 .0) in
-    (a .ensures, c .before .before .clear .ensures ∙ ap zeros k)
+    let said = c .before .before .before .before .before .before .before .before .reply in
+    let k : length (said .last .1 .1 .0) ≡ length (now (s .beside)) = omega (arith, said .kept .1 .1 .0) in
+    (said .ensures, c .before .before .clear .ensures ∙ ap zeros k)
 
 pub reply-and-clear-spec : {M : Type 1} → statement M
 reply-and-clear-spec =

@@ -1,22 +1,16 @@
 -- `put_block`: the block, or the refusal. Assumes nothing.
-use mathlib.Core.Path.{sym, ap}
-use denote.Ref.{now}
-use mathlib.Core.Bool.{true}
-use Rattle.volume.specs.Request.{replied}
-use Rattle.volume.specs.declared.Reply.{Reply}
 use Rattle.lines.specs.Answers.{answerText}
-use Rattle.lines.proofs.Texts.{rewritten}
 use borrow.Author.Needs.{needs}
 use Rattle.lines.proofs.answers.put_block.Statement.{statement}
 use Rattle.lines.proofs.answers.put_block.Tie as tie
 
 returns : tie.Need-returns
 unfolding answerText
-returns c = rewritten _ _ _ _ _ (c .before .before .put-bytes .ensures) (ap (λ (x : Reply). answerText true (replied x) (now (c .before .before .before .before .before .before .before .before .args .block))) (sym (c .before .before .before .before .enum-told .given .1)))
+returns c = rw (c .before .before .before .before .enum-told .given .1) (c .before .before .put-bytes .ensures)
 
 returns-2 : tie.Need-returns-2
 unfolding answerText
-returns-2 c = rewritten _ _ _ _ _ (c .before .before .put-refusal .ensures) (ap (λ (x : Reply). answerText true (replied x) (now (c .before .before .before .before .before .before .before .before .before .args .block))) (sym (c .before .before .before .before .before .a .given .1)))
+returns-2 c = rw (c .before .before .before .before .before .a .given .1) (c .before .before .put-refusal .ensures)
 
 pub put-block-spec : {M : Type 1} → statement M
 put-block-spec =

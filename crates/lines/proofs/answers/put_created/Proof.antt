@@ -1,11 +1,5 @@
 -- `put_created`: the numbers, or the refusal. Assumes nothing.
-use mathlib.Core.Path.{sym, ap}
-use mathlib.Core.Bool.{false}
-use mathlib.Core.List.{[]}
-use Rattle.volume.specs.Request.{createAnswered}
-use Rattle.volume.specs.declared.CreateAnswer.{CreateAnswer}
 use Rattle.lines.specs.Answers.{answerText}
-use Rattle.lines.proofs.Texts.{rewritten}
 use borrow.Author.Needs.{needs}
 use Rattle.lines.proofs.answers.put_created.Statement.{statement}
 use Rattle.lines.proofs.answers.put_created.Tie as tie

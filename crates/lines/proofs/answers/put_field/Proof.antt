@@ -10,10 +10,16 @@ use Rattle.lines.proofs.answers.put_field.Statement.{statement}
 use Rattle.lines.proofs.answers.put_field.Tie as tie
 
 put-requires : tie.Need-put-requires
-put-requires c κs = omega (arith, c .before .before .before .before .put-decimal .ensures .0, decimal-length (c .before .before .before .before .before .before .before .args .n), c .before .before .before .before .before .before .before .pre)
+put-requires c κs =
+    let s = c .before .before .before .before .before .before .before in
+    let number = c .before .before .before .before .put-decimal in
+    omega (arith, decimal-length (s .args .n))
 
 returns : tie.Need-returns
-returns c = let s = c .before .before .before .before .before .before .before .before .before .before .args in (then-sets (now (s .out)) (c .before .before .before .before .before .before .before .put-decimal .last .0) _ (s .at) _ _ (decimal (s .n)) (text " ") (c .before .before .before .before .before .before .before .put-decimal .ensures .0) (c .before .before .before .before .before .before .before .put-decimal .ensures .1) (c .before .before .put .ensures .0) (c .before .before .put .ensures .1))
+returns c =
+    let s = c .before .before .before .before .before .before .before .before .before .before .args in
+    let number = c .before .before .before .before .before .before .before .put-decimal in
+    then-sets (now (s .out)) (s .at) (decimal (s .n)) (text " ") (number .ensures) (c .before .before .put .ensures)
 
 pub put-field-spec : {M : Type 1} → statement M
 put-field-spec =

@@ -1,33 +1,51 @@
 -- `put_head`: `ok` and three numbers. Assumes nothing.
 use native.Mathlib.Omega.{arith}
-use mathlib.Core.Path.{ap}
-use lib.ListN.{length-append}
 use denote.Ref.{now}
-use Prim.Native.Nat.{ℕ}
 use mathlib.Core.List.{_++_}
-use Rattle.script.specs.Text.{text}
+use Rattle.volume.specs.Request.{entryShown}
 use Rattle.lines.specs.Answers.{field}
 use Rattle.script.proofs.Stores.{then-sets}
-use Rattle.lines.proofs.Texts.{begun, rewritten, field-length}
+use Rattle.lines.proofs.Texts.{after-ok, field-length, head-length}
 use borrow.Author.Needs.{needs}
 use Rattle.lines.proofs.answers.put_head.Statement.{statement}
 use Rattle.lines.proofs.answers.put_head.Tie as tie
 
 put-field-requires : tie.Need-put-field-requires
-put-field-requires c κs = omega (arith, c .before .before .before .put .ensures .0, c .before .before .before .before .before .before .before .before .before .pre)
+put-field-requires c κs =
+    let s = c .before .before .before .before .before .before .before .before .before in
+    let ok = c .before .before .before .put in
+    omega arith
 
 put-field-requires-2 : tie.Need-put-field-requires-2
-put-field-requires-2 c κs = omega (arith, c .before .before .before .put-field .ensures .0, field-length (c .before .before .before .before .before .before .before .before .before .before .before .before .before .args .s .parent .0), c .before .before .before .before .before .before .before .put .ensures .0, c .before .before .before .before .before .before .before .before .before .before .before .before .before .pre)
+put-field-requires-2 c κs =
+    let s = c .before .before .before .before .before .before .before .before .before .before .before .before .before in
+    let ok = c .before .before .before .before .before .before .before .put in
+    let parent = c .before .before .before .put-field in
+    omega (arith, field-length (s .args .s .parent .0))
 
 put-field-requires-3 : tie.Need-put-field-requires-3
-put-field-requires-3 c κs = omega (arith, c .before .before .before .before .put-field2 .ensures .0, field-length (c .before .before .before .before .before .before .before .before .before .before .before .before .before .before .before .before .before .before .args .s .inode .0), c .before .before .before .before .before .before .before .before .put-field .ensures .0, field-length (c .before .before .before .before .before .before .before .before .before .before .before .before .before .before .before .before .before .before .args .s .parent .0), c .before .before .before .before .before .before .before .before .before .before .before .before .put .ensures .0, c .before .before .before .before .before .before .before .before .before .before .before .before .before .before .before .before .before .before .pre)
+put-field-requires-3 c κs =
+    let s = c .before .before .before .before .before .before .before .before .before .before .before .before .before .before .before .before .before .before in
+    let ok = c .before .before .before .before .before .before .before .before .before .before .before .before .put in
+    let parent = c .before .before .before .before .before .before .before .before .put-field in
+    let inode = c .before .before .before .before .put-field2 in
+    omega (arith, field-length (s .args .s .parent .0), field-length (s .args .s .inode .0))
 
 returns : tie.Need-returns
 returns c =
-    let s = c .before .before .before .before .before .before .before .before .before .before .before .before .before .before .before .before .before .before .before .before .before .args in
-    let last = (then-sets (c .before .before .before .before .before .before .before .before .before .before .before .put-field .last .0) (c .before .before .before .before .before .before .before .put-field2 .last .0) _ _ _ _ (field (c .before .before .before .before .before .before .before .before .before .before .before .before .before .before .before .before .before .before .before .before .before .args .s .inode .0)) (field (c .before .before .before .wide .result)) (c .before .before .before .before .before .before .before .put-field2 .ensures .0) (c .before .before .before .before .before .before .before .put-field2 .ensures .1) (c .before .before .put-field3 .ensures .0) (c .before .before .put-field3 .ensures .1)) in
-    let more = (then-sets (c .before .before .before .before .before .before .before .before .before .before .before .before .before .before .before .put .last .0) (c .before .before .before .before .before .before .before .before .before .before .before .put-field .last .0) _ _ _ _ (field (c .before .before .before .before .before .before .before .before .before .before .before .before .before .before .before .before .before .before .before .before .before .args .s .parent .0)) (field (c .before .before .before .before .before .before .before .before .before .before .before .before .before .before .before .before .before .before .before .before .before .args .s .inode .0) ++ (field (c .before .before .before .wide .result))) (c .before .before .before .before .before .before .before .before .before .before .before .put-field .ensures .0) (c .before .before .before .before .before .before .before .before .before .before .before .put-field .ensures .1) (last .0) (last .1)) in
-    rewritten (now (s .out)) _ _ _ _ (begun (now (s .out)) _ _ (text "ok " ++ (field (s .s .parent .0) ++ (field (s .s .inode .0) ++ (field (c .before .before .before .wide .result))))) (omega (arith, length-append (text "ok ") (field (s .s .parent .0) ++ (field (s .s .inode .0) ++ (field (c .before .before .before .wide .result)))), length-append (field (s .s .parent .0)) (field (s .s .inode .0) ++ (field (c .before .before .before .wide .result))), length-append (field (s .s .inode .0)) (field (c .before .before .before .wide .result)), field-length (s .s .parent .0), field-length (s .s .inode .0), field-length (c .before .before .before .wide .result), c .before .before .before .before .before .before .before .before .before .before .before .before .before .before .before .before .before .before .before .before .before .pre)) (then-sets (now (s .out)) (c .before .before .before .before .before .before .before .before .before .before .before .before .before .before .before .put .last .0) _ 0 _ _ (text "ok ") (field (s .s .parent .0) ++ (field (s .s .inode .0) ++ (field (c .before .before .before .wide .result)))) (c .before .before .before .before .before .before .before .before .before .before .before .before .before .before .before .put .ensures .0) (c .before .before .before .before .before .before .before .before .before .before .before .before .before .before .before .put .ensures .1) (more .0) (more .1))) (ap (λ (k : ℕ). text "ok " ++ (field (s .s .parent .0) ++ (field (s .s .inode .0) ++ field k))) (c .before .before .before .wide .ensures))
+    let s = c .before .before .before .before .before .before .before .before .before .before .before .before .before .before .before .before .before .before .before .before .before in
+    let ok = c .before .before .before .before .before .before .before .before .before .before .before .before .before .before .before .put in
+    let parent = c .before .before .before .before .before .before .before .before .before .before .before .put-field in
+    let inode = c .before .before .before .before .before .before .before .put-field2 in
+    let wide = c .before .before .before .wide in
+    let kind = c .before .before .put-field3 in
+    let shown = entryShown (s .args .s) in
+    let p = field (shown .parent .0) in
+    let i = field (shown .inode .0) in
+    let k = field (shown .kind) in
+    after-ok (now (s .args .out)) (p ++ (i ++ k)) (omega (arith, head-length shown)) (ok .ensures)
+    (then-sets _ _ p (i ++ k) (parent .ensures)
+    (then-sets _ _ i k (inode .ensures) (rw (wide .ensures) at (kind .ensures))))
 
 pub put-head-spec : {M : Type 1} → statement M
 put-head-spec =

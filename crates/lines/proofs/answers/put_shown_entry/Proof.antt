@@ -1,30 +1,46 @@
 -- `put_shown_entry`: the head and the tail. Assumes nothing.
-use mathlib.Core.List.{List, _++_}
 use native.Mathlib.Omega.{arith}
-use mathlib.Core.Path.{sym, _∙_, ap}
+use mathlib.Core.Path.{_≡_, sym}
 use denote.Ref.{now}
-use Prim.Native.Nat.{ℕ, min}
+use Prim.Native.Nat.{_≤_}
 use lib.ListN.{length, take, length-take, length-append}
 use lib.Seq.{length-take-le}
 use Rattle.volume.specs.Request.{entryShown}
 use Rattle.lines.specs.Answers.{shownHead, shownTail, shownText}
-use Rattle.lines.proofs.Texts.{then-written, rewritten, take-least, head-length, tail-length}
+use Rattle.lines.proofs.Texts.{then-written, take-least, head-length, tail-length}
 use borrow.Author.Needs.{needs}
 use Rattle.lines.proofs.answers.put_shown_entry.Statement.{statement}
 use Rattle.lines.proofs.answers.put_shown_entry.Tie as tie
 
 slice-aggregate-put-tail : tie.Need-slice-aggregate-put-tail
-slice-aggregate-put-tail c = sym (length-take-le _ (now (c .before .before .before .before .before .before .before .before .before .before .args .buffer)) (omega (arith, c .before .before .before .before .before .before .least .ensures)))
+slice-aggregate-put-tail c =
+    let s = c .before .before .before .before .before .before .before .before .before .before .args in
+    let least = c .before .before .before .before .before .before .least in
+    sym (length-take-le _ (now (s .buffer)) (omega (arith, least .ensures)))
 
 put-tail-requires : tie.Need-put-tail-requires
-put-tail-requires c κs = omega (arith, c .before .before .before .before .put-head .ensures .0, head-length (entryShown (c .before .before .before .before .before .before .before .before .before .before .args .s)), length-take (c .before .before .before .before .before .before .least .result) (now (c .before .before .before .before .before .before .before .before .before .before .args .buffer)), c .before .before .before .before .before .before .least .ensures, c .before .before .before .before .before .before .before .count .ensures, c .before .before .before .before .before .before .before .before .before .before .pre)
+put-tail-requires c κs =
+    let s = c .before .before .before .before .before .before .before .before .before .before in
+    let count = c .before .before .before .before .before .before .before .count in
+    let least = c .before .before .before .before .before .before .least in
+    let head = c .before .before .before .before .put-head in
+    omega (arith, head-length (entryShown (s .args .s)), length-take (least .result) (now (s .args .buffer)))
 
 returns : tie.Need-returns
 unfolding shownText
 returns c =
-    let s = c .before .before .before .before .before .before .before .before .before .before .before .before .before .args in
-    rewritten (now (s .out)) _ _ _ _ (then-written (now (s .out)) (c .before .before .before .before .before .before .before .put-head .last .0) _ _ _ (shownHead (entryShown (s .s))) (shownTail (entryShown (s .s)) (take (c .before .before .before .before .before .before .before .before .before .least .result) (now (s .buffer)))) (omega (arith, length-append (shownHead (entryShown (s .s))) (shownTail (entryShown (s .s)) (take (c .before .before .before .before .before .before .before .before .before .least .result) (now (s .buffer)))), head-length (entryShown (s .s)), tail-length (entryShown (s .s)) (take (c .before .before .before .before .before .before .before .before .before .least .result) (now (s .buffer))), length-take (c .before .before .before .before .before .before .before .before .before .least .result) (now (s .buffer)), c .before .before .before .before .before .before .before .before .before .least .ensures, c .before .before .before .before .before .before .before .before .before .before .count .ensures, c .before .before .before .before .before .before .before .before .before .before .before .before .before .pre)) (c .before .before .before .before .before .before .before .put-head .ensures) (c .before .before .put-tail .ensures .0) (c .before .before .put-tail .ensures .1))
-    (ap (λ (k : ℕ). shownHead (entryShown (s .s)) ++ shownTail (entryShown (s .s)) (take k (now (s .buffer)))) (c .before .before .before .before .before .before .before .before .before .least .ensures ∙ ap (λ (k : ℕ). min k (length (now (s .buffer)))) (c .before .before .before .before .before .before .before .before .before .before .count .ensures .0)) ∙ ap (λ (t : List ℕ). shownHead (entryShown (s .s)) ++ shownTail (entryShown (s .s)) t) (take-least (s .s .len) (now (s .buffer))))
+    let s = c .before .before .before .before .before .before .before .before .before .before .before .before .before in
+    let count = c .before .before .before .before .before .before .before .before .before .before .count in
+    let least = c .before .before .before .before .before .before .before .before .before .least in
+    let head = c .before .before .before .before .before .before .before .put-head in
+    let shown = entryShown (s .args .s) in
+    let buffer = now (s .args .buffer) in
+    let name = take (least .result) buffer in
+    let k : length name ≤ 255 = omega (arith, length-take (least .result) buffer) in
+    let e : name ≡ take (shown .len) buffer = rw (least .ensures, count .ensures .0) (take-least (shown .len) buffer) in
+    rw (← e) (then-written (now (s .args .out)) (shownHead shown) (shownTail shown name)
+    (omega (arith, length-append (shownHead shown) (shownTail shown name), head-length shown, tail-length shown name))
+    (head .ensures) (c .before .before .put-tail .ensures))
 
 pub put-shown-entry-spec : {M : Type 1} → statement M
 put-shown-entry-spec =

@@ -1,18 +1,15 @@
 -- `create`: the request, and its answer. Assumes nothing.
 use mathlib.Core.Path.{refl}
-use denote.Ref.{now}
-use mathlib.Core.Bool.{false}
-use mathlib.Core.List.{[]}
 use Rattle.lines.specs.Lines.{respond}
-use Rattle.volume.specs.Request.{createAnswered}
-use Rattle.lines.proofs.Saying.{says}
 use borrow.Author.Needs.{needs}
 use Rattle.lines.proofs.calls.create.Statement.{statement}
 use Rattle.lines.proofs.calls.create.Tie as tie
 
 returns : tie.Need-returns
 unfolding respond
-returns c = says (now (c .before .before .before .before .before .before .before .before .before .args .out)) _ _ _ _ false (createAnswered (c .before .before .before .before .before .create .result .answer)) [] _ (c .before .before .before .before .before .create .ensures) refl (c .before .before .put-created .ensures)
+returns c =
+    let request = c .before .before .before .before .before .create in
+    rw (← request .ensures) (refl, c .before .before .put-created .ensures)
 
 pub create-spec : {M : Type 1} → statement M
 create-spec = tie.close (tie.spec (λ c κs. search needs) (λ c κs. search needs) (λ c. search needs) returns)

@@ -1,14 +1,14 @@
 -- `exchange`: the request, and its answer. Assumes nothing.
-use denote.Ref.{now}
 use Rattle.lines.specs.Lines.{respond}
-use Rattle.lines.proofs.Saying.{changed-says}
 use borrow.Author.Needs.{needs}
 use Rattle.lines.proofs.calls.exchange.Statement.{statement}
 use Rattle.lines.proofs.calls.exchange.Tie as tie
 
 returns : tie.Need-returns
 unfolding respond
-returns c = changed-says (now (c .before .before .before .before .before .before .before .args .out)) _ _ _ _ (c .before .before .before .before .exchange .result) _ (c .before .before .before .before .exchange .ensures) (c .before .before .changed .ensures)
+returns c =
+    let request = c .before .before .before .before .exchange in
+    rw (← request .ensures) (c .before .before .changed .ensures)
 
 pub exchange-spec : {M : Type 1} → statement M
 exchange-spec = tie.close (tie.spec (λ c κs. search needs) (λ c κs. search needs) (λ c. search needs) returns)

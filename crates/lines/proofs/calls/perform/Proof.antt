@@ -1,5 +1,4 @@
--- `perform`: a function for each request, and the word that the match has told is that request's (`performs`). Assumes nothing.
-use Rattle.lines.proofs.Saying.{performs}
+-- `perform`: a function for each request, and the match has told which. Assumes nothing.
 use Rattle.lines.specs.Lines.{respond}
 use borrow.Author.Needs.{needs}
 use Rattle.lines.proofs.calls.perform.Statement.{statement}
@@ -7,7 +6,7 @@ use Rattle.lines.proofs.calls.perform.Tie as tie
 
 returns-14 : tie.Need-returns-14
 unfolding respond
-returns-14 c = performs _ _ _ _ _ _ _ _ _ (c .before .before .before .before .enum-told14 .given .1) (c .before .before .malformed-line .ensures)
+returns-14 c = rw (c .before .before .before .before .enum-told14 .given .1) (c .before .before .malformed-line .ensures)
 
 pub perform-spec : {M : Type 1} → statement M
 perform-spec =
@@ -43,42 +42,42 @@ perform-spec =
     (λ c κs. search needs)
     (λ c. search needs)
     (λ c. search needs)
-    (λ c. performs _ _ _ _ _ _ _ _ _ (c .before .before .before .before .before .enum-told .given .1) (c .before .before .add-key .ensures))
+    (λ c. rw (c .before .before .before .before .before .enum-told .given .1) (c .before .before .add-key .ensures))
     (λ c. search needs)
     (λ c. search needs)
-    (λ c. performs _ _ _ _ _ _ _ _ _ (c .before .before .before .before .before .enum-told2 .given .1) (c .before .before .remove-key .ensures))
+    (λ c. rw (c .before .before .before .before .before .enum-told2 .given .1) (c .before .before .remove-key .ensures))
     (λ c. search needs)
     (λ c. search needs)
-    (λ c. performs _ _ _ _ _ _ _ _ _ (c .before .before .before .before .before .enum-told3 .given .1) (c .before .before .set-policy .ensures))
+    (λ c. rw (c .before .before .before .before .before .enum-told3 .given .1) (c .before .before .set-policy .ensures))
     (λ c. search needs)
     (λ c. search needs)
-    (λ c. performs _ _ _ _ _ _ _ _ _ (c .before .before .before .before .before .enum-told4 .given .1) (c .before .before .get-policy .ensures))
+    (λ c. rw (c .before .before .before .before .before .enum-told4 .given .1) (c .before .before .get-policy .ensures))
     (λ c. search needs)
     (λ c. search needs)
-    (λ c. performs _ _ _ _ _ _ _ _ _ (c .before .before .before .before .before .enum-told5 .given .1) (c .before .before .create .ensures))
+    (λ c. rw (c .before .before .before .before .before .enum-told5 .given .1) (c .before .before .create .ensures))
     (λ c. search needs)
     (λ c. search needs)
-    (λ c. performs _ _ _ _ _ _ _ _ _ (c .before .before .before .before .before .enum-told6 .given .1) (c .before .before .link .ensures))
+    (λ c. rw (c .before .before .before .before .before .enum-told6 .given .1) (c .before .before .link .ensures))
     (λ c. search needs)
     (λ c. search needs)
-    (λ c. performs _ _ _ _ _ _ _ _ _ (c .before .before .before .before .before .enum-told7 .given .1) (c .before .before .rename .ensures))
+    (λ c. rw (c .before .before .before .before .before .enum-told7 .given .1) (c .before .before .rename .ensures))
     (λ c. search needs)
     (λ c. search needs)
-    (λ c. performs _ _ _ _ _ _ _ _ _ (c .before .before .before .before .before .enum-told8 .given .1) (c .before .before .exchange .ensures))
+    (λ c. rw (c .before .before .before .before .before .enum-told8 .given .1) (c .before .before .exchange .ensures))
     (λ c. search needs)
     (λ c. search needs)
-    (λ c. performs _ _ _ _ _ _ _ _ _ (c .before .before .before .before .before .enum-told9 .given .1) (c .before .before .remove .ensures))
+    (λ c. rw (c .before .before .before .before .before .enum-told9 .given .1) (c .before .before .remove .ensures))
     (λ c. search needs)
     (λ c. search needs)
-    (λ c. performs _ _ _ _ _ _ _ _ _ (c .before .before .before .before .before .enum-told10 .given .1) (c .before .before .find .ensures))
+    (λ c. rw (c .before .before .before .before .before .enum-told10 .given .1) (c .before .before .find .ensures))
     (λ c. search needs)
     (λ c. search needs)
-    (λ c. performs _ _ _ _ _ _ _ _ _ (c .before .before .before .before .before .enum-told11 .given .1) (c .before .before .show .ensures))
+    (λ c. rw (c .before .before .before .before .before .enum-told11 .given .1) (c .before .before .show .ensures))
     (λ c. search needs)
     (λ c. search needs)
-    (λ c. performs _ _ _ _ _ _ _ _ _ (c .before .before .before .before .before .before .before .enum-told12 .given .1) (c .before .before .before .before .seal .ensures))
+    (λ c. let told = c .before .before .before .before .before .before .before .enum-told12 in rw (told .given .1) (c .before .before .before .before .seal .ensures))
     (λ c. search needs)
     (λ c. search needs)
-    (λ c. performs _ _ _ _ _ _ _ _ _ (c .before .before .before .before .before .before .before .enum-told13 .given .1) (c .before .before .before .before .open .ensures))
+    (λ c. let told = c .before .before .before .before .before .before .before .enum-told13 in rw (told .given .1) (c .before .before .before .before .open .ensures))
     (λ c. search needs)
     returns-14)

@@ -1,14 +1,14 @@
 -- `remove_key`: the request, and its answer. Assumes nothing.
-use denote.Ref.{now}
 use Rattle.lines.specs.Lines.{respond}
-use Rattle.lines.proofs.Saying.{changed-says}
 use borrow.Author.Needs.{needs}
 use Rattle.lines.proofs.calls.remove_key.Statement.{statement}
 use Rattle.lines.proofs.calls.remove_key.Tie as tie
 
 returns : tie.Need-returns
 unfolding respond
-returns c = changed-says (now (c .before .before .before .before .before .before .before .before .args .out)) _ _ _ _ (c .before .before .before .before .remove-key .result) _ (c .before .before .before .before .remove-key .ensures) (c .before .before .changed .ensures)
+returns c =
+    let request = c .before .before .before .before .remove-key in
+    rw (← request .ensures) (c .before .before .changed .ensures)
 
 pub remove-key-spec : {M : Type 1} → statement M
 remove-key-spec = tie.close (tie.spec (λ c κs. search needs) (λ c κs. search needs) (λ c. search needs) returns)

@@ -1,17 +1,15 @@
 -- `seal`: the request, and its answer. Assumes nothing.
 use mathlib.Core.Path.{refl}
-use denote.Ref.{now}
-use mathlib.Core.Bool.{true}
 use Rattle.lines.specs.Lines.{respond}
-use Rattle.volume.specs.Request.{replied}
-use Rattle.lines.proofs.Saying.{says}
 use borrow.Author.Needs.{needs}
 use Rattle.lines.proofs.calls.seal.Statement.{statement}
 use Rattle.lines.proofs.calls.seal.Tie as tie
 
 returns : tie.Need-returns
 unfolding respond
-returns c = says (now (c .before .before .before .before .before .before .before .before .before .before .before .args .out)) _ _ _ _ true (replied (c .before .before .before .before .before .before .before .seal .result)) _ _ (c .before .before .before .before .before .before .before .seal .ensures) refl (c .before .before .put-block .ensures)
+returns c =
+    let request = c .before .before .before .before .before .before .before .seal in
+    rw (← request .ensures) (refl, c .before .before .put-block .ensures)
 
 pub seal-spec : {M : Type 1} → statement M
 seal-spec =

@@ -1,15 +1,18 @@
 -- `show`: a buffer of at most 4,096 bytes. Assumes nothing.
-use denote.Ref.{now}
-use Rattle.lines.proofs.Saying.{same-said, shows, shows-not}
+use Rattle.lines.proofs.Saying.{shows, shows-not}
 use borrow.Author.Needs.{needs}
 use Rattle.lines.proofs.calls.show.Statement.{statement}
 use Rattle.lines.proofs.calls.show.Tie as tie
 
 returns : tie.Need-returns
-returns c = same-said (now (c .before .before .before .before .before .before .before .before .args .out)) _ _ _ _ _ (c .before .before .malformed-line .ensures) (shows-not _ _ _ (c .before .before .before .before .if1 .taken))
+returns c =
+    let large = c .before .before .before .before .if1 .taken in
+    rw shows-not (c .before .before .malformed-line .ensures)
 
 returns-2 : tie.Need-returns-2
-returns-2 c = same-said (now (c .before .before .before .before .before .before .before .before .args .out)) _ _ _ _ _ (c .before .before .show-sized .ensures) (shows _ _ _ (c .before .before .before .before .if1 .left))
+returns-2 c =
+    let fits = c .before .before .before .before .if1 .left in
+    rw shows (c .before .before .show-sized .ensures)
 
 pub show-spec : {M : Type 1} → statement M
 show-spec =

@@ -1,15 +1,13 @@
 -- `show_in`: the request, and its answer. Assumes nothing.
 use mathlib.Core.Path.{refl}
-use denote.Ref.{now}
-use mathlib.Core.Bool.{false}
-use Rattle.volume.specs.Request.{showAnswered}
-use Rattle.lines.proofs.Saying.{says}
 use borrow.Author.Needs.{needs}
 use Rattle.lines.proofs.calls.show_in.Statement.{statement}
 use Rattle.lines.proofs.calls.show_in.Tie as tie
 
 returns : tie.Need-returns
-returns c = says (now (c .before .before .before .before .before .before .before .before .before .before .before .args .out)) _ _ _ _ false (showAnswered (c .before .before .before .before .before .before .before .show .result)) _ _ (c .before .before .before .before .before .before .before .show .ensures) refl (c .before .before .put-shown .ensures)
+returns c =
+    let request = c .before .before .before .before .before .before .before .show in
+    rw (← request .ensures) (refl, c .before .before .put-shown .ensures)
 
 pub show-in-spec : {M : Type 1} → statement M
 show-in-spec =
