@@ -135,20 +135,17 @@ module _ (before after : Bytes) (v : Volume) (m n : ℕ) (c : Bytes) (h : length
 
   -- no newline yet
   module _ (t : ℕ) (f : t ≡ upToNewline c) (g : hasNewline c ≡ false) where
-    pub feeds-on : Feeds before v m (take t c) after v n
-    feeds-on s k = rw (f, fed-on s c g) (cut-held s k)
-
-    pub says-on : Says before v m (take t c) []
-    says-on s k = rw f (sym (said-on s c g))
+    pub goes-on : Feeds before v m (take t c) after v n × Says before v m (take t c) []
+    goes-on = (λ s k. rw (f, fed-on s c g) (cut-held s k), λ s k. rw f (sym (said-on s c g)))
 
   -- a newline, and what is said to the line
   module _ (t : ℕ) (f : t ≡ upToNewline c) (g : hasNewline c ≡ true) (out : Bytes) (r : LineAnswer) (a : Ends after v n out r) where
-    pub feeds-end : Feeds before v m (take t c) after (r .volume) 0
+    pub ends-here : Feeds before v m (take t c) after (r .volume) 0 × Says before v m (take t c) (take (r .len) out)
     unfolding keptOn
-    feeds-end s k = rw (f, fed-end s c g) (a (lined s c) (cut-held s k) .0, refl)
-
-    pub says-end : Says before v m (take t c) (take (r .len) out)
-    says-end s k = a (lined s c) (cut-held s k) .1 ∙ rw f (sym (said-end s c g))
+    ends-here = (
+      λ s k. rw (f, fed-end s c g) (a (lined s c) (cut-held s k) .0, refl),
+      λ s k. a (lined s c) (cut-held s k) .1 ∙ rw f (sym (said-end s c g)),
+    )
 
 -- a chunk, in parts
 module _ (b : Bytes) (v : Volume) (m : ℕ) (c : Bytes) where

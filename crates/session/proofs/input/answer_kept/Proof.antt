@@ -16,8 +16,11 @@ returns : tie.Need-returns
 returns c =
     let s = c .before .before .before .before .before .before .before .before .before .before .before in
     let a = c .before .before .before .before .answer-line in
-    let k = length-take (s .args .used) (now (s .args .line)) in
-    (omega (arith, a .ensures .1 .0, a .kept .1 .1 .1 .0), held-ends (now (s .args .line)) (s .args .v) (s .args .used) (now (s .args .beside)) (now (s .args .out)) _ _ (a .result) (s .pre .1) (omega (arith, s .pre .2), omega (arith, s .pre .2, s .pre .3)) (a .ensures .0))
+    let line = now (s .args .line) in
+    let k = length-take (s .args .used) line in (
+      omega (arith, a .ensures .1 .0, a .kept .1 .1 .1 .0),
+      held-ends line (s .args .v) (s .args .used) (now (s .args .beside)) (now (s .args .out)) _ _ (a .result) (s .pre .1) (omega arith, omega arith) (a .ensures .0),
+    )
 
 pub answer-kept-spec : {M : Type 1} → statement M
 answer-kept-spec =

@@ -6,9 +6,9 @@ use Rattle.session.proofs.input.run.Tie as tie
 
 returns : tie.Need-returns
 returns c =
-    let t = c .before .before .before .before .before .before .before .before .before .before .before .before .before .before .take-all in
+    let all = c .before .before .before .before .before .before .before .before .before .before .before .before .before .before .take-all in
     let a = c .before .before .before .before .before .answer-kept in
-    begun-ran (t .last .1 .0) (t .result .volume) (t .result .used) (a .last .1 .1 .1 .1 .0) (a .result) (t .ensures .1) (a .ensures .1)
+    begun-ran (all .last .1 .0) (all .result .volume) (all .result .used) (a .last .1 .1 .1 .1 .0) (a .result) (all .ensures .1) (a .ensures .1)
 
 pub run-spec : {M : Type 1} → statement M
 run-spec =

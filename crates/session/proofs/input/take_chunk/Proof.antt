@@ -1,52 +1,55 @@
 -- `take_chunk`: the first `at` bytes of the chunk have been taken, and each turn gets past a byte. Assumes nothing.
-use Prim.Native.Nat.{_+_, _*_, _≤_, _-_}
+use Prim.Native.Nat.{_≤_, _-_}
 use native.Mathlib.Omega.{arith}
 use mathlib.Core.Path.{_≡_, refl}
 use lib.ListN.{length, take, drop, length-take, length-drop}
 use denote.Ref.{now}
-use Rattle.session.specs.Input.{Feeds}
+use Rattle.session.specs.Input.{RoomFor, Feeds}
 use Rattle.session.proofs.Feeding.{feeds-none, feeds-more, feeds-all}
 use borrow.Author.Needs.{needs}
 use Rattle.session.proofs.input.take_chunk.Statement.{statement}
 use Rattle.session.proofs.input.take_chunk.Tie as tie
 
 abbrev Inv-loop : tie.InvT-loop
-Inv-loop line₀ chunk beside₀ out₀ p₀ at₀ line beside out p at = (at ≤ length chunk) × (p .used ≤ length line) × (131074 ≤ length line) × (length line ≡ length line₀) × (length beside ≡ length beside₀) × (length out ≡ length out₀) × (length line ≤ length beside) × (1000 + 2 * length beside ≤ length out) × Feeds line₀ (p₀ .volume) (p₀ .used) (take at chunk) line (p .volume) (p .used)
+Inv-loop line₀ chunk beside₀ out₀ p₀ at₀ line beside out p at =
+    (at ≤ length chunk) × RoomFor (p .used) line beside out × (length line ≡ length line₀) × (length beside ≡ length beside₀) × (length out ≡ length out₀)
+    × Feeds line₀ (p₀ .volume) (p₀ .used) (take at chunk) line (p .volume) (p .used)
 
 abbrev μ-loop : tie.MeasureT-loop
 μ-loop line₀ chunk beside₀ out₀ p₀ at₀ line beside out p at = length chunk - at
 
 loop-holds : tie.Need-loop-holds Inv-loop μ-loop
-loop-holds c = let s = c .before .before .before .before in (search needs, s .pre .0, s .pre .1, refl, refl, refl, s .pre .2, s .pre .3, feeds-none (now (s .args .line)) (s .args .start .volume) (s .args .start .used) (now (s .args .chunk)))
+loop-holds c =
+    let s = c .before .before .before .before in
+    (search needs, s .pre, refl, refl, refl, feeds-none (now (s .args .line)) (s .args .start .volume) (s .args .start .used) (now (s .args .chunk)))
 
 add-at : tie.Need-add-at Inv-loop μ-loop
 add-at c =
+    let s = c .before .before .before .before .before .before .before .before .before .before .before .before .before .before .before .before .before .before .before .before .before in
     let l = c .before .before .before .before .before .before .before .before .before .before .before .before .before .before .before .before .loop in
-    let k = now (c .before .before .before .before .before .before .before .before .before .before .before .before .before .before .before .before .before .before .before .before .before .args .chunk) in
-    omega (arith, c .before .before .before .before .before .before .before .before .before .before .next-answer .ensures .1 .0, length-take (length k - l .at) (drop (l .at) k), length-drop (l .at) k, c .before .before .before .before .before .before .before .before .before .before .before .before .before .before .before .before .before .before .before .before .before .good .1 .1 .0 .0)
+    let a = c .before .before .before .before .before .before .before .before .before .before .next-answer in
+    let chunk = now (s .args .chunk) in
+    omega (arith, a .ensures .1 .0, length-take (length chunk - l .at) (drop (l .at) chunk), length-drop (l .at) chunk, s .good .1 .1 .0 .0)
 
 loop-again : tie.Need-loop-again Inv-loop μ-loop
 loop-again c =
-    let l = c .before .before .before .before .before .before .before .before .before .before .before .before .before .before .before .before .loop in
     let s = c .before .before .before .before .before .before .before .before .before .before .before .before .before .before .before .before .before .before .before .before .before .args in
-    let k = now (s .chunk) in
-    let a = c .before .before .before .before .before .before .before .before .before .before .next-answer in (
-      omega (arith, a .ensures .1 .0, length-take (length k - l .at) (drop (l .at) k), length-drop (l .at) k),
-      omega (arith, a .ensures .0, a .kept .1 .0),
+    let l = c .before .before .before .before .before .before .before .before .before .before .before .before .before .before .before .before .loop in
+    let a = c .before .before .before .before .before .before .before .before .before .before .next-answer in
+    let chunk = now (s .chunk) in (
+      omega (arith, a .ensures .1 .0, length-take (length chunk - l .at) (drop (l .at) chunk), length-drop (l .at) chunk),
+      (omega (arith, a .ensures .0, a .kept .1 .0), omega (arith, a .kept .1 .0), search needs, search needs),
       omega (arith, a .kept .1 .0),
-      omega (arith, a .kept .1 .0),
       search needs,
       search needs,
-      search needs,
-      search needs,
-      feeds-more (now (s .line)) (s .start .volume) (s .start .used) k (l .line) (l .p .volume) (l .p .used) (l .at) (l .inv .8) (a .result .taken) (a .last .1 .0) (a .result .volume) (a .result .used) (a .ensures .1 .1 .1 .0),
+      feeds-more (now (s .line)) (s .start .volume) (s .start .used) chunk (l .line) (l .p .volume) (l .p .used) (l .at) (l .inv .5) (a .result .taken) (a .last .1 .0) (a .result .volume) (a .result .used) (a .ensures .1 .1 .1 .0),
     )
 
 returns : tie.Need-returns Inv-loop μ-loop
 returns c =
     let l = c .before .loop in
     let s = c .before .before .before .before .before .before .args in
-    (omega arith, feeds-all (now (s .line)) (s .start .volume) (s .start .used) (now (s .chunk)) (l .line) (l .p .volume) (l .p .used) (l .at) (l .inv .8) (c .loop-test .left))
+    (omega arith, feeds-all (now (s .line)) (s .start .volume) (s .start .used) (now (s .chunk)) (l .line) (l .p .volume) (l .p .used) (l .at) (l .inv .5) (c .loop-test .left))
 
 pub take-chunk-spec : {M : Type 1} → statement M
 take-chunk-spec =
