@@ -1,4 +1,4 @@
--- `direct`: the request, or the word for none. Assumes nothing.
+-- `direct`: the request, or the word for none. `rw` finds the law's premise in the test's outcome, which a `let` binds. Assumes nothing.
 use native.Mathlib.Omega.{arith}
 use mathlib.Core.Path.{sym}
 use denote.Ref.{now}

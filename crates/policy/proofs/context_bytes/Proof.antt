@@ -8,7 +8,10 @@ use Rattle.policy.proofs.context_bytes.Statement.{statement}
 use Rattle.policy.proofs.context_bytes.Tie as tie
 
 copy-to-requires : tie.Need-copy-to-requires
-copy-to-requires c κs = let n : length (c .before .before .before .before .before .before .before .args .c .nonce) ≡ 16 = search needs in omega arith
+copy-to-requires c κs =
+    let s = c .before .before .before .before .before .before .before .args in
+    let n : length (s .c .nonce) ≡ 16 = search needs in
+    omega arith
 
 returns : tie.Need-returns
 returns c =

@@ -1,4 +1,4 @@
--- `show`: a buffer of at most 4,096 bytes. Assumes nothing.
+-- `show`: a buffer of at most 4,096 bytes. `rw` finds the law's premise in the test's outcome, which a `let` binds. Assumes nothing.
 use Rattle.lines.proofs.Saying.{shows, shows-not}
 use borrow.Author.Needs.{needs}
 use Rattle.lines.proofs.calls.show.Statement.{statement}

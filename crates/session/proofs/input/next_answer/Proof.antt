@@ -15,7 +15,9 @@ returns c =
     let cut = c .before .before .before .before .take-line in
     let h : length (cut .last .0) ≡ length (now (s .line)) = omega (arith, cut .kept .0) in
     let no-newline = sym (cut .ensures .3) ∙ not-true _ (c .if1 .taken) in
-    let fed = goes-on (now (s .line)) (cut .last .0) (s .p .volume) (s .p .used) (cut .result .used) (now (s .bytes)) h (cut .ensures .1) (cut .result .taken) (cut .ensures .2) no-newline in
+    let fed =
+    goes-on (now (s .line)) (cut .last .0) (s .p .volume) (s .p .used) (cut .result .used) (now (s .bytes)) h (cut .ensures .1)
+    (cut .result .taken) (cut .ensures .2) no-newline in
     (cut .ensures .0, (cut .ensures .2, (omega arith, fed)))
 
 returns-2 : tie.Need-returns-2
@@ -26,7 +28,9 @@ returns-2 c =
     let a = c .before .before .before .before .before .answer-kept in
     let h : length (cut .last .0) ≡ length (now (s .line)) = omega (arith, cut .kept .0) in
     let newline = sym (cut .ensures .3) ∙ not-false _ (if1 .left) in
-    let fed = ends-here (now (s .line)) (cut .last .0) (s .p .volume) (s .p .used) (cut .result .used) (now (s .bytes)) h (cut .ensures .1) (cut .result .taken) (cut .ensures .2) newline _ (a .result) (a .ensures .1) in
+    let fed =
+    ends-here (now (s .line)) (cut .last .0) (s .p .volume) (s .p .used) (cut .result .used) (now (s .bytes)) h (cut .ensures .1)
+    (cut .result .taken) (cut .ensures .2) newline _ (a .result) (a .ensures .1) in
     (omega arith, (cut .ensures .2, (a .ensures .0, fed)))
 
 pub next-answer-spec : {M : Type 1} → statement M

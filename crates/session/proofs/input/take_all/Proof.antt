@@ -11,7 +11,8 @@ use Rattle.session.proofs.input.take_all.Tie as tie
 
 abbrev Inv-loop : tie.InvT-loop
 Inv-loop fd line₀ chunk₀ beside₀ out₀ p₀ turns₀ line chunk beside out p turns =
-    RoomFor (p .used) line beside out × (length line ≡ length line₀) × (length beside ≡ length beside₀) × (length out ≡ length out₀) × (length chunk ≡ length chunk₀) × Begun line (p .volume) (p .used)
+    RoomFor (p .used) line beside out × (length line ≡ length line₀) × (length beside ≡ length beside₀) × (length out ≡ length out₀) × (length chunk ≡ length chunk₀)
+    × Begun line (p .volume) (p .used)
 
 abbrev μ-loop : tie.MeasureT-loop
 μ-loop fd line₀ chunk₀ beside₀ out₀ p₀ turns₀ line chunk beside out p turns = turns
@@ -37,7 +38,8 @@ loop-again c =
       search needs,
       search needs,
       search needs,
-      begun-more (l .line) (l .p .volume) (l .p .used) (take (count .result) (read .last .1 .0)) (a .last .1 .0) (a .result .volume) (a .result .used) (l .inv .5) (a .ensures .1),
+      begun-more (l .line) (l .p .volume) (l .p .used) (take (count .result) (read .last .1 .0))
+          (a .last .1 .0) (a .result .volume) (a .result .used) (l .inv .5) (a .ensures .1),
     )
 
 returns-2 : tie.Need-returns-2 Inv-loop μ-loop

@@ -42,7 +42,8 @@ loop-again c =
       omega (arith, a .kept .1 .0),
       search needs,
       search needs,
-      feeds-more (now (s .line)) (s .start .volume) (s .start .used) chunk (l .line) (l .p .volume) (l .p .used) (l .at) (l .inv .5) (a .result .taken) (a .last .1 .0) (a .result .volume) (a .result .used) (a .ensures .1 .1 .1 .0),
+      feeds-more (now (s .line)) (s .start .volume) (s .start .used) chunk (l .line) (l .p .volume) (l .p .used) (l .at) (l .inv .5)
+          (a .result .taken) (a .last .1 .0) (a .result .volume) (a .result .used) (a .ensures .1 .1 .1 .0),
     )
 
 returns : tie.Need-returns Inv-loop μ-loop

@@ -8,10 +8,14 @@ use Rattle.vectors.proofs.answers.write_bytes.Statement.{statement}
 use Rattle.vectors.proofs.answers.write_bytes.Tie as tie
 
 array-share-prefix-text : tie.Need-array-share-prefix-text
-array-share-prefix-text c = omega (arith, toHex-length (now (c .before .before .before .before .before .before .args .b)))
+array-share-prefix-text c =
+    let bytes = now (c .before .before .before .before .before .before .args .b) in
+    omega (arith, toHex-length bytes)
 
 slice-aggregate-write-all-2 : tie.Need-slice-aggregate-write-all-2
-slice-aggregate-write-all-2 c = simp length-take (omega (arith, toHex-length (now (c .before .before .before .before .before .before .before .args .b))))
+slice-aggregate-write-all-2 c =
+    let bytes = now (c .before .before .before .before .before .before .before .args .b) in
+    simp length-take (omega (arith, toHex-length bytes))
 
 pub write-bytes-spec : {M : Type 1} → statement M
 write-bytes-spec =

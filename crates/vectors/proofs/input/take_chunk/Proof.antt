@@ -16,8 +16,9 @@ abbrev μ-loop : tie.MeasureT-loop
 
 loop-again : tie.Need-loop-again Inv-loop μ-loop
 loop-again c =
+    let l = c .before .before .before .before .before .before .before .before .loop in
     let t = c .before .before .before .before .take-line in
-    let k : length (t .last .0) ≡ length (c .before .before .before .before .before .before .before .before .loop .line) = omega (arith, t .kept .0) in
+    let k : length (t .last .0) ≡ length (l .line) = omega (arith, t .kept .0) in
     let u : c .before .if1 .n ≤ length (t .last .0) = ⊎-elim (λ w. omega arith) (λ w. omega (arith, t .ensures .0)) (c .before .if1 .came) in
     (search needs, u, omega arith, omega arith)
 
