@@ -88,29 +88,29 @@ Responds before after r s = (r .volume ≡ s .volume) × Written before after (r
 
 -- the buffers lent have room for a line of so many bytes: one for the bytes that the line spells, and one for the answer
 abbrev pub HasRoom : ℕ → ℕ → ℕ → Type 0
-HasRoom line beside out = (line ≤ beside) × (1000 + 2 * line ≤ out)
+HasRoom line payload out = (line ≤ payload) × (1000 + 2 * line ≤ out)
 
 -- the same, as a test
 abbrev pub hasRoom : ℕ → ℕ → ℕ → Bool
-hasRoom line beside out = leb line beside && leb (1000 + 2 * line) out
+hasRoom line payload out = leb line payload && leb (1000 + 2 * line) out
 
 -- the answer to a line, and what the two buffers hold then
 pub record LineOutcome : Type 0 where
   pub answer : LineAnswer
-  pub beside : Bytes
+  pub payload : Bytes
   pub out : Bytes
 
 abbrev pub lineOutcome : LineAnswer → Bytes → Bytes → LineOutcome
-lineOutcome a beside out = record { answer = a; beside = beside; out = out }
+lineOutcome a payload out = record { answer = a; payload = payload; out = out }
 
--- where there is room: what is said stands at the start of `out`, and as many bytes of `beside` as the line has are zeros; past these the two are as they were
+-- where there is room: what is said stands at the start of `out`, and as many bytes of `payload` as the line has are zeros; past these the two are as they were
 abbrev pub roomOutcome : Said → ℕ → Bytes → Bytes → LineOutcome
-roomOutcome s n beside out = lineOutcome (record { fits = true; len = length (s .said); volume = s .volume }) (laidOver beside (zeros n)) (laidOver out (s .said))
+roomOutcome s n payload out = lineOutcome (record { fits = true; len = length (s .said); volume = s .volume }) (laidOver payload (zeros n)) (laidOver out (s .said))
 
 -- where there is not: nothing is done
 abbrev pub noRoomOutcome : Volume → Bytes → Bytes → LineOutcome
-noRoomOutcome v beside out = lineOutcome (record { fits = false; len = 0; volume = v }) beside out
+noRoomOutcome v payload out = lineOutcome (record { fits = false; len = 0; volume = v }) payload out
 
 unfoldable pub answeredIn : Volume → Bytes → Bytes → Bytes → LineOutcome
-answeredIn v line beside out =
-    cond (hasRoom (length line) (length beside) (length out)) (roomOutcome (answered v line) (length line) beside out) (noRoomOutcome v beside out)
+answeredIn v line payload out =
+    cond (hasRoom (length line) (length payload) (length out)) (roomOutcome (answered v line) (length line) payload out) (noRoomOutcome v payload out)

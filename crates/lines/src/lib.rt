@@ -56,20 +56,20 @@ fn is_skipped(line: &[u8]) -> bool
 }
 
 // The request that the words make, or none.
-fn direct(v: Volume, verb: Verb, a: Args, beside: &mut [u8], out: &mut [u8]) -> Response
-    requires { ⌜ (1000 + 2 * length (now beside) ≤ length (now out)) × (a .len ≤ length (now beside)) ⌝ }
-    ensures { λ r. ⌜ Responds (now (out .entry)) (now (out .exit)) r (directed v verb a (take (a .len) (now (beside .entry)))) ⌝ }
+fn direct(v: Volume, verb: Verb, a: Args, payload: &mut [u8], out: &mut [u8]) -> Response
+    requires { ⌜ (1000 + 2 * length (now payload) ≤ length (now out)) × (a .len ≤ length (now payload)) ⌝ }
+    ensures { λ r. ⌜ Responds (now (out .entry)) (now (out .exit)) r (directed v verb a (take (a .len) (now (payload .entry)))) ⌝ }
 {
     if !a.good {
         return calls::malformed_line(v, out);
     }
     let n = a.len;
-    calls::perform(v, verb, a, &mut beside[..n], out)
+    calls::perform(v, verb, a, &mut payload[..n], out)
 }
 
 // A line that is not skipped.
-fn command(v: Volume, line: &[u8], beside: &mut [u8], out: &mut [u8]) -> Response
-    requires { ⌜ (length (now line) ≤ length (now beside)) × (1000 + 2 * length (now beside) ≤ length (now out)) ⌝ }
+fn command(v: Volume, line: &[u8], payload: &mut [u8], out: &mut [u8]) -> Response
+    requires { ⌜ (length (now line) ≤ length (now payload)) × (1000 + 2 * length (now payload) ≤ length (now out)) ⌝ }
     ensures { λ r. ⌜ Responds (now (out .entry)) (now (out .exit)) r (commanded v (now (line .entry))) ⌝ }
 {
     if 131072 < line.len() {
@@ -77,20 +77,20 @@ fn command(v: Volume, line: &[u8], beside: &mut [u8], out: &mut [u8]) -> Respons
     }
     let verb = verbs::verb(words::first_word(line));
     let shape = verbs::shape_of(verb);
-    let a = arguments::read_words(shape, words::after_word(line), beside);
-    direct(v, verb, a, beside, out)
+    let a = arguments::read_words(shape, words::after_word(line), payload);
+    direct(v, verb, a, payload, out)
 }
 
-// The answer to a line, at the start of `out`, and the volume after it. `beside` is room for the bytes of a KEY, POLICY, NAME or BLOCK.
-fn reply(v: Volume, line: &[u8], beside: &mut [u8], out: &mut [u8]) -> Response
-    requires { ⌜ (length (now line) ≤ length (now beside)) × (1000 + 2 * length (now beside) ≤ length (now out)) ⌝ }
+// The answer to a line, at the start of `out`, and the volume after it. `payload` is room for the bytes of a KEY, POLICY, NAME or BLOCK.
+fn reply(v: Volume, line: &[u8], payload: &mut [u8], out: &mut [u8]) -> Response
+    requires { ⌜ (length (now line) ≤ length (now payload)) × (1000 + 2 * length (now payload) ≤ length (now out)) ⌝ }
     ensures { λ r. ⌜ Replies (now (out .entry)) (now (out .exit)) r (answered v (now (line .entry))) ⌝ }
 {
     let l = without_return(line);
     if is_skipped(l) {
         return Response { len: 0, volume: v };
     }
-    let said = command(v, l, beside, out);
+    let said = command(v, l, payload, out);
     let w = said.volume;
     Response {
         len: output::put(out, said.len, b"\n"),
@@ -109,22 +109,22 @@ fn clear(b: &mut [u8])
     }
 }
 
-// `reply`, after which no byte of a key or a block stays in `beside`.
-fn reply_and_clear(v: Volume, line: &[u8], beside: &mut [u8], out: &mut [u8]) -> Response
-    requires { ⌜ (length (now line) ≤ length (now beside)) × (1000 + 2 * length (now beside) ≤ length (now out)) ⌝ }
+// `reply`, after which no byte of a key or a block stays in `payload`.
+fn reply_and_clear(v: Volume, line: &[u8], payload: &mut [u8], out: &mut [u8]) -> Response
+    requires { ⌜ (length (now line) ≤ length (now payload)) × (1000 + 2 * length (now payload) ≤ length (now out)) ⌝ }
     ensures { λ r. ⌜ Replies (now (out .entry)) (now (out .exit)) r (answered v (now (line .entry))) ⌝ }
-    ensures { λ _. ⌜ now (beside .exit) ≡ zeros (length (now (beside .entry))) ⌝ }
+    ensures { λ _. ⌜ now (payload .exit) ≡ zeros (length (now (payload .entry))) ⌝ }
 {
-    let said = reply(v, line, beside, out);
-    clear(beside);
+    let said = reply(v, line, payload, out);
+    clear(payload);
     said
 }
 
 // Whether the buffers have room for a line. The test is in a form that cannot overflow.
-fn has_room(line: &[u8], beside: &[u8], out: &[u8]) -> bool
-    ensures { λ r. ⌜ r ≡ hasRoom (length (now (line .entry))) (length (now (beside .entry))) (length (now (out .entry))) ⌝ }
+fn has_room(line: &[u8], payload: &[u8], out: &[u8]) -> bool
+    ensures { λ r. ⌜ r ≡ hasRoom (length (now (line .entry))) (length (now (payload .entry))) (length (now (out .entry))) ⌝ }
 {
-    if beside.len() < line.len() {
+    if payload.len() < line.len() {
         return false;
     }
     if out.len() < 1000 {
@@ -133,13 +133,13 @@ fn has_room(line: &[u8], beside: &[u8], out: &[u8]) -> bool
     line.len() <= (out.len() - 1000) / 2
 }
 
-// A line, and any buffers. `beside` is room for the bytes of a KEY, POLICY, NAME or BLOCK: as many as the line has, and they are zeros afterwards. `out` is
+// A line, and any buffers. `payload` is room for the bytes of a KEY, POLICY, NAME or BLOCK: as many as the line has, and they are zeros afterwards. `out` is
 // room for the answer: 1,000 bytes, and two for each byte of the line; the answer stands at its start. Where either buffer is too small, nothing is done.
-pub fn answer_line(v: Volume, line: &[u8], beside: &mut [u8], out: &mut [u8]) -> LineAnswer
-    ensures { λ r. ⌜ lineOutcome r (now (beside .exit)) (now (out .exit)) ≡ answeredIn v (now (line .entry)) (now (beside .entry)) (now (out .entry)) ⌝ }
+pub fn answer_line(v: Volume, line: &[u8], payload: &mut [u8], out: &mut [u8]) -> LineAnswer
+    ensures { λ r. ⌜ lineOutcome r (now (payload .exit)) (now (out .exit)) ≡ answeredIn v (now (line .entry)) (now (payload .entry)) (now (out .entry)) ⌝ }
     ensures { λ r. ⌜ Counts (r .len) (now (out .exit)) ⌝ }
 {
-    if !has_room(line, beside, out) {
+    if !has_room(line, payload, out) {
         return LineAnswer {
             fits: false,
             len: 0,
@@ -147,7 +147,7 @@ pub fn answer_line(v: Volume, line: &[u8], beside: &mut [u8], out: &mut [u8]) ->
         };
     }
     let n = line.len();
-    let said = reply_and_clear(v, line, &mut beside[..n], out);
+    let said = reply_and_clear(v, line, &mut payload[..n], out);
     let w = said.volume;
     LineAnswer {
         fits: true,

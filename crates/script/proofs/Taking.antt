@@ -1,4 +1,4 @@
--- What a word that is taken comes to, case by case; and a word that is not the byte string of any length leaves the bytes beside the arguments.
+-- What a word that is taken comes to, case by case; and a word that is not the byte string of any length leaves the payload.
 -- Assumes nothing.
 use Prim.Native.Nat.{ℕ, _≤_}
 use mathlib.Core.Path.{_≡_, refl, sym, _∙_, ap}

@@ -66,7 +66,7 @@ shapeOf Seal = shape First Second Text Nothing
 shapeOf Open = shape First Second Text Nothing
 shapeOf Unknown = shape Nothing Nothing Nothing Nothing
 
--- ---- what the words come to. The bytes of KEY, POLICY, NAME or BLOCK, of which a request has one at most, stand beside, `len` of them.
+-- ---- what the words come to. The bytes of KEY, POLICY, NAME or BLOCK, of which a request has one at most, are its payload, `len` of them, in a buffer of their own.
 
 abbrev pub noArgs : Args
 noArgs = record { good = true; first = 0; second = 0; descriptor = zeros 8; nonce = zeros 16; len = 0 }

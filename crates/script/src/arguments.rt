@@ -65,15 +65,15 @@ fn take_second(a: Args, w: &[u8]) -> Args
     }
 }
 
-// KEY, POLICY, NAME or BLOCK: its bytes go to the start of the buffer beside the arguments.
-fn take_text(a: Args, w: &[u8], beside: &mut [u8]) -> Args
-    requires { ⌜ length (now w) ≤ length (now beside) ⌝ }
-    ensures { λ r. ⌜ (r ≡ taken a Text (now (w .entry))) × (take (r .len) (now (beside .exit)) ≡ takenText (take (a .len) (now (beside .entry))) Text (now (w .entry))) ⌝ }
+// KEY, POLICY, NAME or BLOCK: its bytes go to the start of the payload, a buffer of their own.
+fn take_text(a: Args, w: &[u8], payload: &mut [u8]) -> Args
+    requires { ⌜ length (now w) ≤ length (now payload) ⌝ }
+    ensures { λ r. ⌜ (r ≡ taken a Text (now (w .entry))) × (take (r .len) (now (payload .exit)) ≡ takenText (take (a .len) (now (payload .entry))) Text (now (w .entry))) ⌝ }
 {
     if !strings::is_byte_string(w) {
         return not_good(a);
     }
-    strings::lay(w, beside);
+    strings::lay(w, payload);
     let mut b = a;
     b.len = strings::byte_count(w);
     b
@@ -158,14 +158,14 @@ fn take_nothing(a: Args, w: &[u8]) -> Args
 }
 
 // One word more.
-fn take_word(a: Args, sort: Sort, w: &[u8], beside: &mut [u8]) -> Args
-    requires { ⌜ length (now w) ≤ length (now beside) ⌝ }
-    ensures { λ r. ⌜ (r ≡ taken a sort (now (w .entry))) × (take (r .len) (now (beside .exit)) ≡ takenText (take (a .len) (now (beside .entry))) sort (now (w .entry))) ⌝ }
+fn take_word(a: Args, sort: Sort, w: &[u8], payload: &mut [u8]) -> Args
+    requires { ⌜ length (now w) ≤ length (now payload) ⌝ }
+    ensures { λ r. ⌜ (r ≡ taken a sort (now (w .entry))) × (take (r .len) (now (payload .exit)) ≡ takenText (take (a .len) (now (payload .entry))) sort (now (w .entry))) ⌝ }
 {
     match sort {
         Sort::First => take_first(a, w),
         Sort::Second => take_second(a, w),
-        Sort::Text => take_text(a, w, beside),
+        Sort::Text => take_text(a, w, payload),
         Sort::Descriptor => take_descriptor(a, w),
         Sort::Nonce => take_nonce(a, w),
         Sort::Size => take_size(a, w),
@@ -174,13 +174,13 @@ fn take_word(a: Args, sort: Sort, w: &[u8], beside: &mut [u8]) -> Args
 }
 
 // The next two words of a line.
-fn take_two(a: Args, one: Sort, two: Sort, line: &[u8], beside: &mut [u8]) -> Args
-    requires { ⌜ length (now line) ≤ length (now beside) ⌝ }
-    ensures { λ r. ⌜ (r ≡ nextTwo (reading a (take (a .len) (now (beside .entry))) (now (line .entry))) one two .args) × (take (r .len) (now (beside .exit)) ≡ nextTwo (reading a (take (a .len) (now (beside .entry))) (now (line .entry))) one two .bytes) ⌝ }
+fn take_two(a: Args, one: Sort, two: Sort, line: &[u8], payload: &mut [u8]) -> Args
+    requires { ⌜ length (now line) ≤ length (now payload) ⌝ }
+    ensures { λ r. ⌜ (r ≡ nextTwo (reading a (take (a .len) (now (payload .entry))) (now (line .entry))) one two .args) × (take (r .len) (now (payload .exit)) ≡ nextTwo (reading a (take (a .len) (now (payload .entry))) (now (line .entry))) one two .bytes) ⌝ }
 {
-    let b = take_word(a, one, words::first_word(line), beside);
+    let b = take_word(a, one, words::first_word(line), payload);
     let rest = words::after_word(line);
-    take_word(b, two, words::first_word(rest), beside)
+    take_word(b, two, words::first_word(rest), payload)
 }
 
 fn after_two(line: &[u8]) -> &[u8]
@@ -190,16 +190,16 @@ fn after_two(line: &[u8]) -> &[u8]
 }
 
 // All words after the request's; the bytes of KEY, POLICY, NAME or BLOCK come to stand at the start of the buffer.
-pub fn read_words(shape: Shape, line: &[u8], beside: &mut [u8]) -> Args
-    requires { ⌜ length (now line) ≤ length (now beside) ⌝ }
-    ensures { λ r. ⌜ (r ≡ readWords shape (now (line .entry)) .args) × (take (r .len) (now (beside .exit)) ≡ readWords shape (now (line .entry)) .bytes) ⌝ }
+pub fn read_words(shape: Shape, line: &[u8], payload: &mut [u8]) -> Args
+    requires { ⌜ length (now line) ≤ length (now payload) ⌝ }
+    ensures { λ r. ⌜ (r ≡ readWords shape (now (line .entry)) .args) × (take (r .len) (now (payload .exit)) ≡ readWords shape (now (line .entry)) .bytes) ⌝ }
 {
     let one = shape.one;
     let two = shape.two;
     let three = shape.three;
     let four = shape.four;
-    let a = take_two(no_args(), one, two, line, beside);
+    let a = take_two(no_args(), one, two, line, payload);
     let rest = after_two(line);
-    let b = take_two(a, three, four, rest, beside);
+    let b = take_two(a, three, four, rest, payload);
     take_nothing(b, words::first_word(after_two(rest)))
 }

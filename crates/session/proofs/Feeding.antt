@@ -119,10 +119,10 @@ module _ (s : Session) (c : Bytes) where
 
 -- ---- the buffer
 
-pub held-ends : (buffer : Bytes) (v : Volume) (used : ℕ) (b c beside out : Bytes) (r : LineAnswer) → 131074 ≤ length buffer → HasRoom (length (take used buffer)) (length b) (length c)
-    → lineOutcome r beside out ≡ answeredIn v (take used buffer) b c → Ends buffer v used out r
-held-ends buffer v used b c beside out r h g a s e =
-    let x = replied-in v (take used buffer) b c beside out r g a in
+pub held-ends : (buffer : Bytes) (v : Volume) (used : ℕ) (b c payload out : Bytes) (r : LineAnswer) → 131074 ≤ length buffer → HasRoom (length (take used buffer)) (length b) (length c)
+    → lineOutcome r payload out ≡ answeredIn v (take used buffer) b c → Ends buffer v used out r
+held-ends buffer v used b c payload out r h g a s e =
+    let x = replied-in v (take used buffer) b c payload out r g a in
     let k : answered v (take used buffer) ≡ ending s = same (e .0) (e .1) ∙ answered-kept (s .volume) (length buffer) h (s .line) in
     (x .0 ∙ ap (λ (t : Said). t .volume) k, ap (take (r .len)) (x .2) ∙ laid-read c _ (r .len) (x .1) ∙ ap (λ (t : Said). t .said) k)
   where

@@ -52,11 +52,11 @@ transcript t = saidAll begun t ++ (ending (fedAll begun t) .said)
 
 -- the buffers lent: one with room for a line, or for enough of a longer one to tell that it is too long; one for the bytes that a line spells; one for the answer
 abbrev pub Room : Bytes → Bytes → Bytes → Type 0
-Room line beside out = (131074 ≤ length line) × (length line ≤ length beside) × (1000 + 2 * length beside ≤ length out)
+Room line payload out = (131074 ≤ length line) × (length line ≤ length payload) × (1000 + 2 * length payload ≤ length out)
 
 -- the same, with so many bytes of a line kept
 abbrev pub RoomFor : ℕ → Bytes → Bytes → Bytes → Type 0
-RoomFor used line beside out = (used ≤ length line) × (131074 ≤ length line) × (length line ≤ length beside) × (1000 + 2 * length beside ≤ length out)
+RoomFor used line payload out = (used ≤ length line) × (131074 ≤ length line) × (length line ≤ length payload) × (1000 + 2 * length payload ≤ length out)
 
 -- the volume, and the first bytes of a buffer
 abbrev pub Held : Bytes → Volume → ℕ → Session → Type 0

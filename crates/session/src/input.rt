@@ -42,11 +42,17 @@ fn out_room() -> [u8; OUT_ROOM]
 }
 
 // Answers the line that the first `used` bytes are kept of.
-fn answer_kept(v: Volume, line: &[u8], used: usize, beside: &mut [u8], out: &mut [u8]) -> LineAnswer
-    requires { ⌜ RoomFor used (now line) (now beside) (now out) ⌝ }
+fn answer_kept(
+    v: Volume,
+    line: &[u8],
+    used: usize,
+    payload: &mut [u8],
+    out: &mut [u8],
+) -> LineAnswer
+    requires { ⌜ RoomFor used (now line) (now payload) (now out) ⌝ }
     ensures { λ r. ⌜ (r .len ≤ length (now (out .entry))) × Ends (now (line .entry)) v used (now (out .exit)) r ⌝ }
 {
-    lines::answer_line(v, &line[..used], beside, out)
+    lines::answer_line(v, &line[..used], payload, out)
 }
 
 // Takes bytes up to the end of a line, and answers the line where it has come.
@@ -54,10 +60,10 @@ fn next_answer(
     p: Progress,
     line: &mut [u8],
     bytes: &[u8],
-    beside: &mut [u8],
+    payload: &mut [u8],
     out: &mut [u8],
 ) -> Turn
-    requires { ⌜ RoomFor (p .used) (now line) (now beside) (now out) ⌝ }
+    requires { ⌜ RoomFor (p .used) (now line) (now payload) (now out) ⌝ }
     ensures { λ r. ⌜ r .used ≤ length (now (line .entry)) ⌝ }
     ensures { λ r. ⌜ r .taken ≡ upToNewline (now (bytes .entry)) ⌝ }
     ensures { λ r. ⌜ r .len ≤ length (now (out .entry)) ⌝ }
@@ -74,7 +80,7 @@ fn next_answer(
             len: 0,
         };
     }
-    let r = answer_kept(v, line, cut.used, beside, out);
+    let r = answer_kept(v, line, cut.used, payload, out);
     let w = r.volume;
     Turn {
         volume: w,
@@ -96,17 +102,17 @@ fn take_chunk(
     start: Progress,
     line: &mut [u8],
     chunk: &[u8],
-    beside: &mut [u8],
+    payload: &mut [u8],
     out: &mut [u8],
 ) -> Progress
-    requires { ⌜ RoomFor (start .used) (now line) (now beside) (now out) ⌝ }
+    requires { ⌜ RoomFor (start .used) (now line) (now payload) (now out) ⌝ }
     ensures { λ r. ⌜ r .used ≤ length (now (line .entry)) ⌝ }
     ensures { λ r. ⌜ Feeds (now (line .entry)) (start .volume) (start .used) (now (chunk .entry)) (now (line .exit)) (r .volume) (r .used) ⌝ }
 {
     let mut p = start;
     let mut at: usize = 0;
     while at < chunk.len() {
-        let t = next_answer(p, line, &chunk[at..], beside, out);
+        let t = next_answer(p, line, &chunk[at..], payload, out);
         say(out, t.len);
         let v = t.volume;
         p = Progress {
@@ -124,10 +130,10 @@ fn take_all(
     fd: i32,
     line: &mut [u8],
     chunk: &mut [u8],
-    beside: &mut [u8],
+    payload: &mut [u8],
     out: &mut [u8],
 ) -> Progress
-    requires { ⌜ Room (now line) (now beside) (now out) ⌝ }
+    requires { ⌜ Room (now line) (now payload) (now out) ⌝ }
     ensures { λ r. ⌜ (r .used ≤ length (now (line .entry))) × Begun (now (line .exit)) (r .volume) (r .used) ⌝ }
 {
     let mut p = Progress {
@@ -141,7 +147,7 @@ fn take_all(
         if n == 0 {
             return p;
         }
-        p = take_chunk(p, line, &chunk[..n], beside, out);
+        p = take_chunk(p, line, &chunk[..n], payload, out);
         turns -= 1;
     }
     p
@@ -160,11 +166,11 @@ pub fn run(fd: i32) -> Volume
 {
     let mut line = line_room();
     let mut chunk = io::large_buffer();
-    let mut beside = line_room();
+    let mut payload = line_room();
     let mut out = out_room();
-    let p = take_all(fd, &mut line, &mut chunk, &mut beside, &mut out);
+    let p = take_all(fd, &mut line, &mut chunk, &mut payload, &mut out);
     let v = p.volume;
-    let r = answer_kept(v, &line, p.used, &mut beside, &mut out);
+    let r = answer_kept(v, &line, p.used, &mut payload, &mut out);
     say(&out, r.len);
     r.volume
 }

@@ -1,4 +1,4 @@
--- `answer_line`: buffers without room are handed back; else as many bytes of `beside` as the line has are lent on, and come back as zeros. Assumes nothing.
+-- `answer_line`: buffers without room are handed back; else as many bytes of `payload` as the line has are lent on, and come back as zeros. Assumes nothing.
 use native.Mathlib.Omega.{arith}
 use mathlib.Core.Path.{sym}
 use denote.Ref.{now}
@@ -12,8 +12,8 @@ use Rattle.lines.proofs.answer_line.Tie as tie
 returns : tie.Need-returns
 returns c =
     let s = c .before .before .before .before .before .before .before .args in
-    let no = failed (length (now (s .line))) (length (now (s .beside))) (length (now (s .out))) _ (c .before .has-room .ensures) (c .if1 .taken) in
-    (no-room (s .v) (now (s .line)) (now (s .beside)) (now (s .out)) no, counted 0 (now (s .out)) (omega arith))
+    let no = failed (length (now (s .line))) (length (now (s .payload))) (length (now (s .out))) _ (c .before .has-room .ensures) (c .if1 .taken) in
+    (no-room (s .v) (now (s .line)) (now (s .payload)) (now (s .out)) no, counted 0 (now (s .out)) (omega arith))
 
 slice-relend-prefix-reply-and-clear : tie.Need-slice-relend-prefix-reply-and-clear
 slice-relend-prefix-reply-and-clear c = passed _ _ _ _ (c .before .has-room .ensures) (c .if1 .left) .0
@@ -24,8 +24,8 @@ slice-aggregate-reply-and-clear c = sym (length-take-le _ _ (passed _ _ _ _ (c .
 reply-and-clear-requires : tie.Need-reply-and-clear-requires
 reply-and-clear-requires c κs =
     let s = c .before .before .before .before .before .before .before .before .before .args in
-    let h = passed (length (now (s .line))) (length (now (s .beside))) (length (now (s .out))) _ (c .before .before .before .has-room .ensures) (c .before .before .if1 .left) in
-    let k = length-take (length (now (s .line))) (now (s .beside)) in
+    let h = passed (length (now (s .line))) (length (now (s .payload))) (length (now (s .out))) _ (c .before .before .before .has-room .ensures) (c .before .before .if1 .left) in
+    let k = length-take (length (now (s .line))) (now (s .payload)) in
     (omega arith, omega arith)
 
 returns-2 : tie.Need-returns-2
@@ -35,8 +35,8 @@ returns-2 c =
     let if1 = c .before .before .before .before .before .before .before .before .if1 in
     let said = c .before .before .before .before .before .reply-and-clear in
     let out = said .last .1 .1 .1 .0 in
-    let h = passed (length (now (s .line))) (length (now (s .beside))) (length (now (s .out))) _ (room .ensures) (if1 .left) in (
-      done-in (s .v) (now (s .line)) (now (s .beside)) (now (s .out)) (said .result .len) (said .result .volume) _ out h (said .ensures .0) (said .ensures .1),
+    let h = passed (length (now (s .line))) (length (now (s .payload))) (length (now (s .out))) _ (room .ensures) (if1 .left) in (
+      done-in (s .v) (now (s .line)) (now (s .payload)) (now (s .out)) (said .result .len) (said .result .volume) _ out h (said .ensures .0) (said .ensures .1),
       counted (said .result .len) out (omega (arith, said .ensures .0 .1, said .ensures .0 .3, said .kept .1 .1 .1 .0)),
     )
 

@@ -22,7 +22,7 @@ slice-aggregate-perform c = sym (length-take-le _ _ (c .before .before .before .
 perform-requires : tie.Need-perform-requires
 perform-requires c κs =
     let s = c .before .before .before .before .before .before in
-    (omega arith, omega (arith, length-take (s .args .a .len) (now (s .args .beside))))
+    (omega arith, omega (arith, length-take (s .args .a .len) (now (s .args .payload))))
 
 returns-2 : tie.Need-returns-2
 returns-2 c =

@@ -12,7 +12,7 @@ returns : tie.Need-returns
 returns c =
     let s = c .before .before .before .before .before .before .before .before .before .before .before .before .before .before .args in
     let said = c .before .before .before .before .before .before .before .before .reply in
-    let k : length (said .last .1 .1 .0) ≡ length (now (s .beside)) = omega (arith, said .kept .1 .1 .0) in
+    let k : length (said .last .1 .1 .0) ≡ length (now (s .payload)) = omega (arith, said .kept .1 .1 .0) in
     (said .ensures, c .before .before .clear .ensures ∙ ap zeros k)
 
 pub reply-and-clear-spec : {M : Type 1} → statement M

@@ -18,7 +18,7 @@ returns c =
     let s = c .before .before .before .before .before .args in
     let e = sym (c .before .before .is-byte-string .ensures) ∙ not-true _ (c .before .if1 .taken) in (
       c .not-good .ensures ∙ text-not _ _ e,
-      ap (λ (x : Args). take (x .len) (now (s .beside))) (c .not-good .ensures) ∙ bytes-stay (s .a) _ _ e,
+      ap (λ (x : Args). take (x .len) (now (s .payload))) (c .not-good .ensures) ∙ bytes-stay (s .a) _ _ e,
     )
 
 lay-requires : tie.Need-lay-requires

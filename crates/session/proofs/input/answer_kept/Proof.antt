@@ -19,7 +19,7 @@ returns c =
     let line = now (s .args .line) in
     let k = length-take (s .args .used) line in (
       omega (arith, a .ensures .1 .0, a .kept .1 .1 .1 .0),
-      held-ends line (s .args .v) (s .args .used) (now (s .args .beside)) (now (s .args .out)) _ _ (a .result) (s .pre .1) (omega arith, omega arith) (a .ensures .0),
+      held-ends line (s .args .v) (s .args .used) (now (s .args .payload)) (now (s .args .out)) _ _ (a .result) (s .pre .1) (omega arith, omega arith) (a .ensures .0),
     )
 
 pub answer-kept-spec : {M : Type 1} → statement M

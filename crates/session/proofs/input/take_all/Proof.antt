@@ -10,12 +10,12 @@ use Rattle.session.proofs.input.take_all.Statement.{statement}
 use Rattle.session.proofs.input.take_all.Tie as tie
 
 abbrev Inv-loop : tie.InvT-loop
-Inv-loop fd line₀ chunk₀ beside₀ out₀ p₀ turns₀ line chunk beside out p turns =
-    RoomFor (p .used) line beside out × (length line ≡ length line₀) × (length beside ≡ length beside₀) × (length out ≡ length out₀) × (length chunk ≡ length chunk₀)
+Inv-loop fd line₀ chunk₀ payload₀ out₀ p₀ turns₀ line chunk payload out p turns =
+    RoomFor (p .used) line payload out × (length line ≡ length line₀) × (length payload ≡ length payload₀) × (length out ≡ length out₀) × (length chunk ≡ length chunk₀)
     × Begun line (p .volume) (p .used)
 
 abbrev μ-loop : tie.MeasureT-loop
-μ-loop fd line₀ chunk₀ beside₀ out₀ p₀ turns₀ line chunk beside out p turns = turns
+μ-loop fd line₀ chunk₀ payload₀ out₀ p₀ turns₀ line chunk payload out p turns = turns
 
 loop-holds : tie.Need-loop-holds Inv-loop μ-loop
 loop-holds c =

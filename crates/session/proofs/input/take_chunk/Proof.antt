@@ -11,12 +11,12 @@ use Rattle.session.proofs.input.take_chunk.Statement.{statement}
 use Rattle.session.proofs.input.take_chunk.Tie as tie
 
 abbrev Inv-loop : tie.InvT-loop
-Inv-loop line₀ chunk beside₀ out₀ p₀ at₀ line beside out p at =
-    (at ≤ length chunk) × RoomFor (p .used) line beside out × (length line ≡ length line₀) × (length beside ≡ length beside₀) × (length out ≡ length out₀)
+Inv-loop line₀ chunk payload₀ out₀ p₀ at₀ line payload out p at =
+    (at ≤ length chunk) × RoomFor (p .used) line payload out × (length line ≡ length line₀) × (length payload ≡ length payload₀) × (length out ≡ length out₀)
     × Feeds line₀ (p₀ .volume) (p₀ .used) (take at chunk) line (p .volume) (p .used)
 
 abbrev μ-loop : tie.MeasureT-loop
-μ-loop line₀ chunk beside₀ out₀ p₀ at₀ line beside out p at = length chunk - at
+μ-loop line₀ chunk payload₀ out₀ p₀ at₀ line payload out p at = length chunk - at
 
 loop-holds : tie.Need-loop-holds Inv-loop μ-loop
 loop-holds c =
