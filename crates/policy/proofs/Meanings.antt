@@ -3,7 +3,7 @@
 use Prim.Native.Nat.{ℕ}
 use native.Mathlib.Omega.{arith}
 use mathlib.Core.Path.{_≡_, refl, sym, ap, _∙_, subst}
-use mathlib.Core.Logic.{_↔_, _⊎_, inl, inr, ⊎-elim}
+use mathlib.Core.Logic.{_≢_, _↔_, _⊎_, inl, inr, ⊎-elim}
 use mathlib.Core.Bool.{Bool, true, false, not, false≢true}
 use lib.ListN.{length, take, drop, getD, length-drop}
 use lib.Seq.{take-all}
@@ -55,6 +55,10 @@ valid p =
 pub master-key-size : (p : Policy) (n : ℕ) → (isMasterKeySize p n ≡ true) ↔ MasterKeySize p n
 unfolding isMasterKeySize
 master-key-size p n = equal n 64
+
+-- whatever the pair, a key is more than no bytes
+pub master-key-some : (p : Policy) (n : ℕ) → isMasterKeySize p n ≡ true → n ≢ 0
+master-key-some p n h z = let size = master-key-size p n .0 h in omega arith
 
 name-key-size : (p : Policy) → nameKeySize p ≡ 32
 unfolding nameKeySize

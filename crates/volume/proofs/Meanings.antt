@@ -16,7 +16,7 @@ use Rattle.errno.specs.Refusals.{_⇒_, _>>_}
 use Rattle.errno.specs.declared.Errno.the-variants.{ENOENT, ENOTDIR}
 use Rattle.errno.specs.declared.Checked.{Checked}
 use Rattle.errno.specs.declared.Checked.the-variants.{Fine, Refused}
-use Rattle.policy.proofs.Meanings.{master-key-size}
+use Rattle.policy.proofs.Meanings.{master-key-size, master-key-some}
 use Rattle.volume.specs.Volume.{keySlots, inodeSlots, entrySlots, noKey, noInode, noEntry, nameOf}
 use Rattle.volume.specs.Lookup.{isFreeKey, onKeyring, keySlotOf, freeKeySlot, keyOf, descriptorOf, keyPresent, lacksKey, inodeAt, isFree, isDirectory, freeInode, bearsNonce, nonceHolder, isBorne, isVacant, freeEntry, isIn, isNamed, entryNamed, isTaken, firstChild, hasEntries, isLink, firstLink, isHeld, keyAt, nodeAt, slotAt}
 use Rattle.volume.specs.DirectoryNames.{formIn}
@@ -189,17 +189,16 @@ module _ (v : Volume) (s : Sound v) where
   unfolding firstLink
   held i = some-found (isLink i) (v .entries) noEntry entrySlots (s .entry-slots) (EntryOf v i) (links v i) refl
 
-  -- ---- the key of an inode: a free slot has no key of 64 bytes, and a descriptor is on the keyring once
+  -- ---- the key of an inode: a free slot has no key that is long enough, and a descriptor is on the keyring once
 
   key-there : (i : Inode) → keyPresent v i ≡ true → KeyPresent v i
   unfolding keyPresent keyOf keySlotOf
   key-there i t =
       let d = descriptorOf i in
       let k = firstAt (onKeyring d) (v .keys) in
-      let size : (keyAt v k) .len ≡ 64 = master-key-size (i .context .policy) ((keyAt v k) .len) .0 t in
       let on : onKeyring d (keyAt v k) ≡ true =
-      ⊎-elim (λ h. h) (λ e. absurd (let z : (keyAt v k) .len ≡ 0 = ap (λ (x : Key). x .len) e in omega arith)) (firstAt-ends (onKeyring d) (v .keys) noKey) in
-      (k, on-keyring v d k .0 on, size)
+      ⊎-elim (λ h. h) (λ e. absurd (master-key-some (i .context .policy) ((keyAt v k) .len) t (ap (λ (x : Key). x .len) e))) (firstAt-ends (onKeyring d) (v .keys) noKey) in
+      (k, on-keyring v d k .0 on, master-key-size (i .context .policy) ((keyAt v k) .len) .0 t)
 
   there-key : (i : Inode) → KeyPresent v i → keyPresent v i ≡ true
   unfolding keyPresent keyOf keySlotOf

@@ -17,6 +17,7 @@ use Rattle.lists.proofs.Tables.{firstAt-map, firstAt-ends}
 use Rattle.errno.specs.declared.Checked.the-variants.{Fine}
 use Rattle.errno.proofs.Chains.{skip}
 use Rattle.policy.specs.Policies.{isMasterKeySize, nameKeySize}
+use Rattle.policy.proofs.Meanings.{master-key-some}
 use Rattle.fscrypt.specs.Names.{nameCheck, padded, encrypted}
 use Rattle.fscrypt.proofs.Padding.{pad-fits, length-padded, padded-bytes, name-fits, plain-name}
 use Rattle.volume.specs.Volume.{inodeSlots, noKey, noInode, noEntry, nameOf}
@@ -107,7 +108,7 @@ module _ (S : Setting) where
 
     -- the key of an inode whose key is present
     present-key : (i : Inode) → keyPresent v i ≡ true → masterKey (enc S v) (descriptorOf i) ≡ S .key (descriptorOf i)
-    unfolding keyPresent isMasterKeySize keyOf keySlotOf
+    unfolding keyPresent keyOf keySlotOf
     present-key i h = go (firstAt-ends (onKeyring d) (v .keys) noKey)
       where
         d : Bytes
@@ -116,11 +117,8 @@ module _ (S : Setting) where
         k : Key
         k = getD (v .keys) (firstAt (onKeyring d) (v .keys)) noKey
 
-        sixty-four : k .len ≡ 64
-        sixty-four = eqb-true h
-
         used : isFreeKey k ≡ false
-        used = ap (λ (n : ℕ). eqb n 0) sixty-four
+        used = eqb-other (k .len) 0 (master-key-some (i .context .policy) (k .len) h)
 
         go : (onKeyring d k ≡ true) ⊎ (k ≡ noKey) → masterKey (enc S v) d ≡ S .key d
         go (inl p) =
