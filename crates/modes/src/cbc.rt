@@ -11,14 +11,14 @@ ghost use Rattle.modes.specs.Walk.{Going};
 ghost use Rattle.modes.specs.Cbc.{cbcStep, cbcNext, cbcInvStep, cbcInvNext};
 
 // One block, after the ciphertext block c.
-pub fn step(sbox: &[u8; 256], w: &[u8], nr: usize, c: State, p: State) -> State
+pub(crate) fn step(sbox: &[u8; 256], w: &[u8], nr: usize, c: State, p: State) -> State
     requires { ⌜ Keyed sBoxTable (now sbox) (now w) nr ⌝ }
     ensures { λ r. ⌜ r ≡ cbcStep (now (w .entry)) nr c p ⌝ }
 {
     cipher::cipher(sbox, w, nr, states::add_round_key(p, c))
 }
 
-pub fn inv_step(inv_sbox: &[u8; 256], w: &[u8], nr: usize, c: State, o: State) -> State
+pub(crate) fn inv_step(inv_sbox: &[u8; 256], w: &[u8], nr: usize, c: State, o: State) -> State
     requires { ⌜ Keyed invSBoxTable (now «inv_sbox») (now w) nr ⌝ }
     ensures { λ r. ⌜ r ≡ cbcInvStep (now (w .entry)) nr c o ⌝ }
 {
