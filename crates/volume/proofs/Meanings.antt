@@ -2,7 +2,7 @@
 -- its test's meaning; the climb is proofs/Below.antt's. Assumes nothing.
 use Prim.Native.Nat.{ℕ, _≤_, _<_}
 use native.Mathlib.Omega.{arith}
-use mathlib.Core.Path.{_≡_, refl, sym, _∙_, ap}
+use mathlib.Core.Path.{_≡_, refl, sym, _∙_, ap, subst}
 use mathlib.Core.Logic.{_≢_, _↔_, Iff·rfl, Iff·trans, Iff·and, ⊎-elim}
 use mathlib.Core.Bool.{Bool, true, false, cond, not, true≢false, false≢true}
 use lib.Dec.{eqb, leb, ltb}
@@ -16,6 +16,7 @@ use Rattle.errno.specs.Refusals.{_⇒_, _>>_}
 use Rattle.errno.specs.declared.Errno.the-variants.{ENOENT, ENOTDIR}
 use Rattle.errno.specs.declared.Checked.{Checked}
 use Rattle.errno.specs.declared.Checked.the-variants.{Fine, Refused}
+use Rattle.policy.specs.Meanings.{MasterKeySize}
 use Rattle.policy.proofs.Meanings.{master-key-size, master-key-some}
 use Rattle.volume.specs.Volume.{keySlots, inodeSlots, entrySlots, noKey, noInode, noEntry, nameOf}
 use Rattle.volume.specs.Lookup.{isFreeKey, onKeyring, keySlotOf, freeKeySlot, keyOf, descriptorOf, keyPresent, lacksKey, inodeAt, isFree, isDirectory, freeInode, bearsNonce, nonceHolder, isBorne, isVacant, freeEntry, isIn, isNamed, entryNamed, isTaken, firstChild, hasEntries, isLink, firstLink, isHeld, keyAt, nodeAt, slotAt}
@@ -208,7 +209,7 @@ module _ (v : Volume) (s : Sound v) where
       let first = on-keyring v d k .0 (firstAt-found (onKeyring d) (v .keys) noKey (w .0) refl (on-keyring v d (w .0) .1 (w .1))) in
       let one : k ≡ w .0 =
       s .descriptors-apart k (w .0) (eqb-other _ 0 (first .in-use)) (eqb-other _ 0 (w .1 .in-use)) (first .descriptor ∙ sym (w .1 .descriptor)) in
-      master-key-size (i .context .policy) ((keyAt v k) .len) .1 (ap (λ (n : ℕ). (keyAt v n) .len) one ∙ w .2)
+      master-key-size (i .context .policy) ((keyAt v k) .len) .1 (subst (λ (n : ℕ). MasterKeySize (i .context .policy) ((keyAt v n) .len)) (sym one) (w .2))
 
   key-present : (i : Inode) → (keyPresent v i ≡ true) ↔ KeyPresent v i
   key-present i = (key-there i, there-key i)

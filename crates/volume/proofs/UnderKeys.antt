@@ -1,7 +1,7 @@
 -- What stands under a directory's key is what specs/UnderKeys.antt says: the search of the keyring ends at the slot that holds the descriptor, a sound volume having
 -- it once, and each definition is read with that slot's key. Assumes nothing.
 use Prim.Native.Nat.{ℕ, _-_}
-use mathlib.Core.Path.{_≡_, refl, sym, _∙_, ap, ap₂, subst}
+use mathlib.Core.Path.{_≡_, refl, sym, _∙_, ap, subst}
 use mathlib.Core.Bool.{true, false}
 use mathlib.Core.List.{_++_}
 use lib.ListN.{length, take, drop}
@@ -11,8 +11,8 @@ use Rattle.lists.specs.Bytes.{Bytes, zeros, laidOver}
 use Rattle.lists.proofs.Tests.{if-true, if-false, eqb-other}
 use Rattle.lists.proofs.Searches.{fails}
 use Rattle.lists.proofs.Copies.{laid-read}
+use Rattle.policy.specs.Policies.{nameKeySize}
 use Rattle.policy.specs.Meanings.{MasterKeySize}
-use Rattle.policy.proofs.Meanings.{policy-meanings}
 use Rattle.fscrypt.specs.Cipher.{Cipher}
 use Rattle.fscrypt.specs.Names.{encrypted, padded, nameBytes}
 use Rattle.fscrypt.specs.Encoded.{encoded}
@@ -62,7 +62,7 @@ module _ (C : Cipher) where
 
     names-key : nameKey C v i ≡ namesBy C v k i
     unfolding nameKey
-    names-key = ap₂ (λ (m : ℕ) (x : Bytes). take m x) (policy-meanings .name-key-size (i .context .policy)) derived
+    names-key = ap (take (nameKeySize (i .context .policy))) derived
 
     stored-encrypted : (n : Bytes) (q m : ℕ) → i .encrypted ≡ true → Multiple (i .context .policy .flags) q → PaddedTo q (length n) m
         → stored C v i n ≡ C .encryptName (namesBy C v k i) (n ++ zeros (m - length n))

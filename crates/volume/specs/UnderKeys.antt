@@ -7,6 +7,7 @@ use mathlib.Core.Bool.{true, false}
 use mathlib.Core.List.{_++_}
 use lib.ListN.{length, take, drop}
 use Rattle.lists.specs.Bytes.{Bytes, zeros}
+use Rattle.policy.specs.Policies.{nameKeySize}
 use Rattle.policy.specs.Meanings.{MasterKeySize}
 use Rattle.fscrypt.specs.Cipher.{Cipher}
 use Rattle.fscrypt.specs.Encoded.{encoded}
@@ -28,9 +29,9 @@ module _ (C : Cipher) where
   abbrev pub derivedBy : Volume → ℕ → Inode → Bytes
   derivedBy v k i = C .derive (keyBytes (keyAt v k)) (i .context .nonce)
 
-  -- "it is cut to the first 32 bytes for names"
+  -- "it is cut to the first 32 bytes for names": the policy says to how many (policy/specs/Meanings.antt: name-key-size)
   abbrev pub namesBy : Volume → ℕ → Inode → Bytes
-  namesBy v k dir = take 32 (derivedBy v k dir)
+  namesBy v k dir = take (nameKeySize (dir .context .policy)) (derivedBy v k dir)
 
 -- "show answers parent, thing, kind, form, length and name"; "Show writes the name's bytes at the buffer's start and no others."
 pub record ShownIn (before after : Bytes) (s : ShownEntry) (f : Form) (n : Bytes) : Type 0 where
