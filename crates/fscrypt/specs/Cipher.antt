@@ -1,4 +1,4 @@
--- What the layers above use of the ciphers, as a record, and the laws of it that they use: their definitions are over any such record, so that nothing
+-- What the layers above use of the ciphers, as a record, and the laws of it that they may use: their definitions are over any such record, so that nothing
 -- above can look into a cipher. The real one is `fscrypt`. Assumes nothing.
 use Prim.Native.Nat.{ℕ}
 use mathlib.Core.Path.{_≡_}

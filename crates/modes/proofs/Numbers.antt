@@ -1,4 +1,5 @@
--- A data unit's number as a block: its bytes, the lowest first, and eight zeros; and the number is found again in them. Assumes nothing.
+-- The blocks that modes start from: that of zeros is bytes; a data unit's number as a block has its bytes, the lowest first, and eight zeros, and the number is found again
+-- in them. Assumes nothing.
 use mathlib.Core.Path.{_≡_, refl, sym, ap}
 use Prim.Native.Nat.{ℕ, zero, suc, _+_, _*_, _/_, _%_, _^_, _<_}
 use native.Mathlib.Nat.{div-div-eq-div-mul}

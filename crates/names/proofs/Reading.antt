@@ -5,8 +5,8 @@ use mathlib.Core.Bool.{Bool, true, false, cond, not, _&&_}
 use mathlib.Core.List.{[], _++_}
 use Prim.Native.Nat.{ℕ, _≤_}
 use native.Mathlib.Omega.{arith}
-use lib.ListN.{length, take, length-append}
-use lib.Seq.{take-take, take-at}
+use lib.ListN.{length, take, drop, length-append}
+use lib.Seq.{take-take, take-at, drop-at}
 use borrow.Author.Tests.{eqb-true}
 use Rattle.lists.specs.Bytes.{Bytes}
 use Rattle.lists.proofs.Tests.{if-true, if-false}
@@ -46,12 +46,13 @@ present-sizes v i k e p l =
     record { fits = omega arith; for-names = omega arith }
 
 -- the start of a slot derived in place, and what stands behind it
-pub derived-by : (C : Cipher) (v : Volume) (i : Inode) (k : Key) (b rest : Bytes) → k ≡ keyOf v (descriptorOf i) → PresentSizes i k
-    → length b ≡ k .len → b ≡ C .derive (keyBytes k) (i .context .nonce) → DerivedFor C v i (record { len = k .len; bytes = b ++ rest })
+pub derived-by : (C : Cipher) (v : Volume) (i : Inode) (k : Key) (b : Bytes) → k ≡ keyOf v (descriptorOf i) → PresentSizes i k
+    → length b ≡ k .len → b ≡ C .derive (keyBytes k) (i .context .nonce) → DerivedFor C v i (record { len = k .len; bytes = b ++ drop (k .len) (k .bytes) })
 unfolding derivedKey
-derived-by C v i k b rest e s l q = record {
-  bytes = take-at b rest (k .len) l ∙ q ∙ ap (λ (x : Key). C .derive (keyBytes x) (i .context .nonce)) e;
-  fits = omega (arith, length-append b rest);
+derived-by C v i k b e s l q = record {
+  bytes = take-at b (drop (k .len) (k .bytes)) (k .len) l ∙ q ∙ ap (λ (x : Key). C .derive (keyBytes x) (i .context .nonce)) e;
+  rest = drop-at b (drop (k .len) (k .bytes)) (k .len) l ∙ ap (λ (x : Key). drop (k .len) (x .bytes)) e;
+  fits = omega (arith, length-append b (drop (k .len) (k .bytes)));
   for-names = s .for-names;
 }
 

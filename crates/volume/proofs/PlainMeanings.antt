@@ -1,4 +1,4 @@
--- The tests of numbers and records mean what specs/Meanings.antt says, part by part. Assumes nothing.
+-- The tests of numbers and records, and the views of requests and answers, mean what specs/Meanings.antt says, part by part. Assumes nothing.
 use Prim.Native.Nat.{ℕ, _≤_}
 use native.Mathlib.Omega.{arith}
 use mathlib.Core.Path.{_≡_, refl, sym, ap, ap₂}
@@ -13,6 +13,7 @@ use Rattle.lists.proofs.Slots.{by-test}
 use Rattle.lists.proofs.Searches.{equal, at-most, not-denied, both, either}
 use Rattle.policy.specs.Policies.{policyBytes}
 use Rattle.volume.specs.Request.{ShownEntry, Answer, refused, done, created, at, policyIs, shown, refusalIn, shownIn}
+use Rattle.volume.specs.Step.{lent}
 use Rattle.volume.specs.Checks.{isPolicyRefused, isBadKind, isBadKeyLength, isNonceNeeded}
 use Rattle.volume.specs.Sound.{KeyLength}
 use Rattle.volume.specs.PolicyClause.{WouldLack}
@@ -74,11 +75,16 @@ shown-entry (policyIs p) s h = cc
 shown-entry (shown t) s h = cc
 
 views : ViewsMean
+unfolding lent
 views = record {
   key-lent = λ d k. refl;
   name-lent = λ e b. refl;
   block-sealed = λ i n b. refl;
   block-opened = λ i n b. refl;
+  key-bytes = λ d k. refl;
+  name-bytes = λ e b. refl;
+  sealed-bytes = λ i n b. refl;
+  opened-bytes = λ i n b. refl;
   refusal = λ a n. (refusal a n, ap refusalIn);
   shown-entry = λ a s. (shown-entry a s, ap shownIn);
 }

@@ -3,12 +3,12 @@
 use Prim.Native.Nat.{ℕ, suc}
 use mathlib.Core.Path.{_≡_, refl, sym, _∙_, ap, ap₂, subst, subst₂}
 use mathlib.Core.Logic.{_≢_, _⊎_, inl, inr}
-use mathlib.Core.Bool.{Bool, true, false, cond, not, true≢false, false≢true}
+use mathlib.Core.Bool.{Bool, true, false, cond, true≢false, false≢true}
 use mathlib.Core.List.{List, [], _∷_, _++_, map, List·Memᴰ, List·Memᴰ·not-nil, List·Memᴰ·cases-cons, List·Memᴰ·head, List·Memᴰ·tail}
 use mathlib.Core.Option.{Option, some, none}
 use lib.ListN.{length, getD, take, drop, replicate, length-replicate, take-append-drop}
 use lib.Seq.{drop-at}
-use lib.Dec.{T, lit<}
+use lib.Dec.{lit<}
 use Rattle.lists.specs.Bytes.{Bytes, ByteList, same, zeros, laidOver}
 use Rattle.lists.proofs.Tests.{same-eq, same-self, if-true, if-false}
 use Rattle.lists.proofs.Tables.{all-set}

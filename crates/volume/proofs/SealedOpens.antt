@@ -42,7 +42,7 @@ use Rattle.volume.proofs.Passed.{create-passed, link-passed, rename-pas
 use Rattle.volume.proofs.SoundCreate.{free-kept}
 use Rattle.volume.proofs.ContextsStay.{context-stays}
 use Rattle.volume.proofs.Bytewise.{derived-bytes, bytewise-kept}
-use Rattle.volume.proofs.StoredNames.{shows, stored-same, held-same}
+use Rattle.volume.proofs.StoredNames.{shows, sameKeyring, stored-same, held-same}
 
 -- ---- what is read of a volume by the key of an inode
 
@@ -112,9 +112,8 @@ module _ (C : Cipher) (law : Lawful C) where
   -- ---- names: an entry that a request stored
 
   module _ (v : Volume) (is : List Inode) (es : List Entry) where
-    -- a volume with the same keys
     abbrev after : Volume
-    after = record { keys = v .keys; inodes = is; entries = es }
+    after = sameKeyring v is es
 
     shows-new : Bytewise after → (e : EntryNumber) (p i : InodeNumber) (n : Bytes) → ByteList n → nameCheck n ≡ Fine → lacksKey v (inodeAt v p) ≡ false
         → getD is (p .0) noInode ≡ inodeAt v p → getD es (e .0) noEntry ≡ entrySlot p i (stored C v (inodeAt v p) n) → ShowsAs C after e n

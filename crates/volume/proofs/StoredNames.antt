@@ -6,7 +6,6 @@ use mathlib.Core.Logic.{_≢_}
 use mathlib.Core.Bool.{Bool, true, false, cond, not, _&&_, false≢true}
 use mathlib.Core.List.{List}
 use lib.ListN.{length, take}
-use lib.Dec.{ltb}
 use lib.Seq.{take-append-seam}
 use borrow.Author.Tests.{le-ltb}
 use Rattle.lists.specs.Bytes.{Bytes, ByteList}
@@ -28,7 +27,6 @@ use Rattle.volume.specs.Step.{lent, check, effect, settle, step}
 use Rattle.volume.specs.Bytewise.{Bytewise}
 use Rattle.volume.specs.SealedOpens.{ShowsAs}
 use Rattle.ids.specs.declared.EntryNumber.{EntryNumber}
-use Rattle.volume.specs.declared.Key.{Key}
 use Rattle.volume.specs.declared.Inode.{Inode}
 use Rattle.volume.specs.declared.Entry.{Entry}
 use Rattle.volume.specs.declared.Volume.{Volume}
@@ -98,14 +96,14 @@ module _ (C : Cipher) (law : Lawful C) where
 
 -- ---- a volume with the same keys
 
-module _ (C : Cipher) (v : Volume) (is : List Inode) (es : List Entry) where
-  abbrev after : Volume
-  after = record { keys = v .keys; inodes = is; entries = es }
+abbrev pub sameKeyring : Volume → List Inode → List Entry → Volume
+sameKeyring v is es = record { keys = v .keys; inodes = is; entries = es }
 
-  pub stored-same : (dir : Inode) (n : Bytes) → stored C after dir n ≡ stored C v dir n
+module _ (C : Cipher) (v : Volume) (is : List Inode) (es : List Entry) where
+  pub stored-same : (dir : Inode) (n : Bytes) → stored C (sameKeyring v is es) dir n ≡ stored C v dir n
   unfolding stored nameKey derivedKey keyOf keySlotOf
   stored-same dir n = refl
 
-  pub held-same : (dir : Inode) → lacksKey after dir ≡ lacksKey v dir
+  pub held-same : (dir : Inode) → lacksKey (sameKeyring v is es) dir ≡ lacksKey v dir
   unfolding lacksKey keyPresent keyOf keySlotOf
   held-same dir = refl

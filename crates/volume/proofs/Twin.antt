@@ -64,16 +64,21 @@ pub data Alike (l : Lent) (Q : Type 0) : Checked → Checked → Type 0 where
   both-fine : Q → Alike l Q Fine Fine
 
 -- a line that is a test: the same test in both, and what follows is only asked once it has passed
-pub test : {l : Lent} {Q : Type 0} (e : Errno) {c c′ : Bool} {x y : Checked} → NotUnclean (number e) → c ≡ c′ → (c′ ≡ false → Alike l Q x y)
+pub test-with : {l : Lent} {Q : Type 0} (e : Errno) {c c′ : Bool} {x y : Checked} → Clean l (number e) → c ≡ c′ → (c′ ≡ false → Alike l Q x y)
     → Alike l Q (_>>_ (c ⇒ e) x) (_>>_ (c′ ⇒ e) y)
 unfolding _>>_ _⇒_
-test {l} {Q} e {c} {c′} {x} {y} t p f = go c c′ p f
+test-with {l} {Q} e {c} {c′} {x} {y} t p f = go c c′ p f
   where
     go : (c c′ : Bool) → c ≡ c′ → (c′ ≡ false → Alike l Q x y) → Alike l Q (_>>_ (c ⇒ e) x) (_>>_ (c′ ⇒ e) y)
-    go true true p f = both-refuse e (clean l (number e) t)
+    go true true p f = both-refuse e t
     go true false p f = absurd (true≢false p)
     go false true p f = absurd (false≢true p)
     go false false p f = f refl
+
+-- the same with a refusal that any request may give
+pub test : {l : Lent} {Q : Type 0} (e : Errno) {c c′ : Bool} {x y : Checked} → NotUnclean (number e) → c ≡ c′ → (c′ ≡ false → Alike l Q x y)
+    → Alike l Q (_>>_ (c ⇒ e) x) (_>>_ (c′ ⇒ e) y)
+test {l} e t p f = test-with e (clean l (number e) t) p f
 
 -- a line that refuses in neither
 pub never : {l : Lent} {Q : Type 0} (e : Errno) {c c′ : Bool} {x y : Checked} → c ≡ false → c′ ≡ false → Alike l Q x y

@@ -1,5 +1,5 @@
 -- What the tests in the definitions of a volume mean: each that is named here, and on which a table of checks, the rules of a sound volume, the policy clause or the
--- two runs lean, is equal, in both directions, to a plain predicate in which no test stands. What a shown name has to pass is said in DoneWhen.antt: ShowDone.
+-- two runs lean, is equal, in both directions, to a plain predicate in which no test stands; and what the views of requests and answers see. What a shown name has to pass is said in DoneWhen.antt: ShowDone.
 -- Sentences in quotation marks are those of documents 00 and 01, in their words. Assumes nothing.
 use Prim.Native.Nat.{ℕ, _≤_, _<_}
 use mathlib.Core.Path.{_≡_}
@@ -19,6 +19,7 @@ use Rattle.volume.specs.Volume.{keySlots, inodeSlots, entrySlots, noKey,
 use Rattle.volume.specs.Lookup.{isFreeKey, keySlotOf, freeKeySlot, descriptorOf, keyPresent, lacksKey, inodeAt, isFree, isDirectory, freeInode, isBorne, isVacant, freeEntry, entryNamed, isTaken, hasEntries, isHeld, isUnderItself, keyAt, nodeAt, slotAt, Used}
 use Rattle.volume.specs.DirectoryNames.{formIn}
 use Rattle.volume.specs.Checks.{directoryCheck, isPolicyRefused, isBadKind, isBadKeyLength, isNonceNeeded}
+use Rattle.volume.specs.Step.{lent}
 use Rattle.volume.specs.Sound.{EntryIn, EntryOf, Below, KeyLength}
 use Rattle.volume.specs.PolicyClause.{WouldLack}
 use Rattle.ids.specs.declared.InodeNumber.{InodeNumber}
@@ -115,6 +116,11 @@ pub record ViewsMean : Type 0 where
   pub name-lent : (e : EntryNumber) (b : Bytes) → lends (show e b) ≡ name-buffer b
   pub block-sealed : (i : InodeNumber) (n : ℕ) (b : Bytes) → lends (seal i n b) ≡ block-buffer b
   pub block-opened : (i : InodeNumber) (n : ℕ) (b : Bytes) → lends (unseal i n b) ≡ block-buffer b
+  -- and its bytes, which a refusal leaves (Leaves.antt: refused-all)
+  pub key-bytes : (d k : Bytes) → lent (addKey d k) ≡ k
+  pub name-bytes : (e : EntryNumber) (b : Bytes) → lent (show e b) ≡ b
+  pub sealed-bytes : (i : InodeNumber) (n : ℕ) (b : Bytes) → lent (seal i n b) ≡ b
+  pub opened-bytes : (i : InodeNumber) (n : ℕ) (b : Bytes) → lent (unseal i n b) ≡ b
   pub refusal : (a : Answer) (n : ℕ) → (refusalIn a ≡ some n) ↔ (a ≡ refused n)
   pub shown-entry : (a : Answer) (s : ShownEntry) → (shownIn a ≡ some s) ↔ (a ≡ shown s)
 

@@ -81,7 +81,8 @@ eachRequest i p a b kind number d x s =
 
 -- ---- what a request lends
 
--- the buffer that a request lends for writing, by what it is for; policies and names, lent for reading, stand in the request, and no call can write them
+-- the buffer that a request lends, as far as it is followed here, by what it is for: one to write to, or the key of an add key, of which the two runs speak. Policies and
+-- names, lent for reading, stand in the request, and no call can write them
 pub data Lent : Type 0 where
   no-buffer : Lent
   key-buffer : (bytes : Bytes) → Lent

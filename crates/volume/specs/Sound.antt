@@ -13,7 +13,6 @@ use Rattle.fscrypt.specs.Names.{paddedLength}
 use Rattle.fscrypt.specs.Meanings.{PlainName}
 use Rattle.volume.specs.Volume.{keySlots, inodeSlots, entrySlots, noKey, noInode, noEntry, rootNumber, keyBytes, nameOf}
 use Rattle.volume.specs.Lookup.{keyAt, isFreeKey, inodeAt, nodeAt, isFree, slotAt, isVacant, Used, dirOf, nodeOf}
-use Rattle.volume.specs.declared.Key.{Key}
 use Rattle.volume.specs.declared.Inode.{Inode}
 use Rattle.volume.specs.declared.Volume.{Volume}
 use Rattle.ids.specs.declared.InodeNumber.{InodeNumber}

@@ -96,7 +96,8 @@ pub record NamesAsGiven (ms : List Moment) : Type 0 where
 
 -- ---- the claim
 
--- "after every request in them": two whole lists of moments are equal, once what may differ is blanked
+-- "after every request in them": the outcomes of two whole lists, one for each request, are equal, once what may differ is blanked; the requests are compared by
+-- SameButKeys
 pub record Agree (ms₁ ms₂ : List Moment) : Type 0 where
   pub same : map blank ms₁ ≡ map blank ms₂
   pub names₁ : NamesAsGiven ms₁

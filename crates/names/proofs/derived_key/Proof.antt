@@ -25,7 +25,7 @@ returns c =
     let key = c .before .before .before .before .before .before .key-of in
     let sizes = present-sizes _ _ (key .result) (key .ensures) (start .pre) (search needs) in
     let derived = c .before .derive-key in
-    derived-by fscrypt _ _ (key .result) (derived .last .0) _ (key .ensures) sizes (derived .kept .0 ∙ sym (count-take _ _ (sizes .fits))) (derived .ensures)
+    derived-by fscrypt _ _ (key .result) (derived .last .0) (key .ensures) sizes (derived .kept .0 ∙ sym (count-take _ _ (sizes .fits))) (derived .ensures)
 
 pub derived-key-spec : {M : Type 1} → statement M
 derived-key-spec =
