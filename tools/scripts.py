@@ -9,7 +9,7 @@
     tools/scripts.py compare 100          100 random scripts, program and model
     tools/scripts.py compare --bytes 100  the same with garbage, to compare the parsers
     tools/scripts.py tworuns 100          100 pairs of scripts that differ in key bytes only
-    tools/scripts.py kernel FILE          the model and what a Linux kernel wrote
+    tools/scripts.py kernel FILE          the model and what a Linux kernel wrote, and answered
     tools/scripts.py selftest             checks of the model, without the program
 
 Compare and tworuns need the program, at target/bin/bulwarkle below the
@@ -108,7 +108,8 @@ def _options():
     command = _add_runner(commands, "compare", "program and model on random scripts", _compare)
     command.add_argument("--bytes", action="store_true", help="garbage instead of requests")
     _add_runner(commands, "tworuns", "document 01's two runs", _tworuns)
-    command = commands.add_parser("kernel", help="the model and what a Linux kernel wrote")
+    command = commands.add_parser("kernel",
+                                  help="the model and what a Linux kernel wrote, and answered")
     command.add_argument("file", type=Path, metavar="FILE")
     command.set_defaults(action=lambda options: kernel.check(options.file))
     command = commands.add_parser("selftest", help="checks of the model, without the program")

@@ -5,9 +5,10 @@ that coverage can be counted by check and not only by number.
 """
 
 ERRNO = {
-    "EPERM": 1, "ENOENT": 2, "EEXIST": 17, "ENOTDIR": 20, "EINVAL": 22,
-    "ENOSPC": 28, "ERANGE": 34, "ENAMETOOLONG": 36, "ENOTEMPTY": 39,
-    "ENODATA": 61, "ENOTUNIQ": 76, "EUCLEAN": 117, "ENOKEY": 126,
+    "EPERM": 1, "ENOENT": 2, "EEXIST": 17, "EXDEV": 18, "ENOTDIR": 20,
+    "EINVAL": 22, "ENOSPC": 28, "ERANGE": 34, "ENAMETOOLONG": 36,
+    "ENOTEMPTY": 39, "ENODATA": 61, "ENOTUNIQ": 76, "EUCLEAN": 117,
+    "ENOKEY": 126,
 }
 
 # Each check and the refusal it gives.
@@ -33,10 +34,10 @@ REASONS = {
     "first-parent-key": "ENOKEY",
     "second-parent-key": "ENOKEY",
     "inode-key": "ENOKEY",
-    # the policy refusal
-    "policy": "EPERM",
-    "first-policy": "EPERM",
-    "second-policy": "EPERM",
+    # the policy refusal; its number is document 02's (Item 2)
+    "policy": "EXDEV",
+    "first-policy": "EXDEV",
+    "second-policy": "EXDEV",
     # a directory put under itself
     "under-itself": "EINVAL",
     "first-under-itself": "EINVAL",

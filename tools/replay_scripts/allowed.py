@@ -24,7 +24,7 @@ ORDER = {
     # is asked for last, inodes and entries both.
     "create": (*_NAME, "kind", *_PARENT, "parent-key", "name-taken", "nonce-borne",
                "no-free-inode", "no-free-entry"),
-    # EPERM twice: linking a directory comes before the key, the policy after it.
+    # Linking a directory (EPERM) comes before the key, the policy (EXDEV) after it.
     "link": (*_NAME, "no-inode", *_PARENT, "linking-directory", "parent-key", "policy",
              "name-taken", "no-free-entry"),
     # Rename keeps its entry's number, so it needs no room.

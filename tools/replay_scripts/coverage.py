@@ -1,4 +1,4 @@
-"""What the stored set covers, as Markdown: refusals, answer forms, worked cases, slips."""
+"""What the stored set covers, as Markdown: refusals, forms, worked cases, slips, a kernel."""
 
 from collections import Counter
 
@@ -6,7 +6,7 @@ from bulwarkle_model.reasons import REASONS
 from bulwarkle_model.script import Malformed, answers, ask, parse
 from bulwarkle_model.volume import Volume
 
-from . import stored
+from . import cases_kernel, stored
 from .allowed import NEVER_TOGETHER, ORDER, REFUSALS, allowed, never_together, possible_pairs
 from .corners import pairs_of
 from .slips import SLIPS, uncaught
@@ -24,7 +24,7 @@ CASES = {
     "ninth-key": "Ninth key: ENOSPC",
     "fresh-create-show": "Fresh volume, create `a`, kind 2, in 0; show 0, whole answer",
     "linking-across": "Encrypted file linked into a plain directory: done. Plain file into an "
-                      "encrypted one: EPERM. Special file: done",
+                      "encrypted one: EXDEV (EPERM before Item 2). Special file: done",
     "exchange-with-itself": "Exchange of an entry with itself: done; ENOKEY without the key",
     "flags-2-against-3": "Same descriptor, flags 2 against 3: policy refusal",
     "slip-1-policy-compare": "Slip 1: comparing policies by length, or by descriptor only",
@@ -121,6 +121,36 @@ def _case_rows(tally):
         yield [text, ", ".join(name for name, _ in tally.tags.get(tag, []))]
 
 
+def _kernel_rows():
+    for group, cases in cases_kernel.ANSWERS.items():
+        rows = [(group, *answer) for answer in cases.items()]
+        counts = Counter("left out" if cases_kernel.left_out(row) else row[2] for row in rows)
+        yield [group, cases_kernel.SCRIPTS[group],
+               *(counts[key] for key in ("EXDEV", "0", "left out"))]
+
+
+def _left_out_rows():
+    found = {}
+    for group, case, errno in cases_kernel.rows():
+        why = cases_kernel.left_out((group, case, errno))
+        if why:
+            found.setdefault((why, group), []).append(f"`{case}`")
+    for (why, group), cases in found.items():
+        yield [group, ", ".join(cases), why]
+
+
+def _kernel_section():
+    return [
+        "## A kernel's answers", "",
+        f"What Linux 6.1 answered to link and rename: {len(cases_kernel.rows())} cases, copied in "
+        "`tools/replay_scripts/cases_kernel.py`. One that is replayed must get the kernel's "
+        "answer, EXDEV or done.", "",
+        *_table(["group", "script", "EXDEV", "done", "left out"], _kernel_rows()),
+        "Cases left out:", "",
+        *_table(["group", "cases", "because"], _left_out_rows()),
+    ]
+
+
 def report(tally, count):
     """The whole report as text."""
     requests = sum(tally.results.values())
@@ -148,6 +178,7 @@ def report(tally, count):
         "## Worked cases and slips", "",
         "A slip counts as covered where a model that makes it answers these scripts otherwise.", "",
         *_table(["case", "scripts"], _case_rows(tally)),
+        *_kernel_section(),
     ])
 
 

@@ -1,7 +1,9 @@
-"""Comparing the model with what a Linux kernel wrote (names, blocks, policies).
+"""Comparing the model with what a Linux kernel wrote (names, blocks, policies) and answered.
 
 Only the pair 1/4 (AES-256-XTS with AES-256-CTS) is in document 01. The file's
-other pairs are policies it refuses.
+other pairs are policies it refuses. Of the kernel's answers to whole requests
+those to link and rename are compared with the copies in cases_kernel, which the
+stored scripts replay.
 """
 
 import json
@@ -10,6 +12,8 @@ from bulwarkle_model.ciphers import derive_key, encrypt_cts
 from bulwarkle_model.names import NAME_MAX, padded_length
 from bulwarkle_model.policy import read_context, read_policy
 from bulwarkle_model.volume import DIRECTORY, REGULAR, Volume
+
+from . import cases_kernel
 
 PAIR = "1/4"
 
@@ -60,15 +64,35 @@ def _policy_differs(case):
 
 
 def _cases(path):
-    """The names, blocks and policies of a file, as tools/vectors.py describes it."""
+    """The names, blocks, policies, links and renames of a file.
+
+    tools/vectors.py describes the first three. The links and renames are in
+    semantics, a list of {group, case, what, errno}.
+    """
     try:
         values = json.loads(path.read_text(encoding="ascii"))
         names, blocks = ([case for case in values[kind] if case["pair"] == PAIR]
                          for kind in ("names", "blocks"))
-        return names, blocks, values["policy_bytes"]
+        rows = [tuple(str(row[key]) for key in ("group", "case", "errno"))
+                for row in values["semantics"]]
+        moves = [row for row in rows if row[0] == "link" or row[0].startswith("rename")]
+        return names, blocks, values["policy_bytes"], moves
     except (KeyError, TypeError, ValueError) as wrong:
         raise NotValues(f"{path} is not the kernel's values: "
                         f"{type(wrong).__name__}: {wrong}") from None
+
+
+def _check_moves(moves):
+    """Compare a file's links and renames with the copies; returns the number that differ."""
+    copies = cases_kernel.rows()
+    wrong = sorted({*moves} ^ {*copies})
+    differing = len({row[:2] for row in wrong})
+    left_out = sum(cases_kernel.left_out(row) is not None for row in copies)
+    print(f"links and renames: {len(moves)} compared, {differing} differ "
+          f"({len(copies) - left_out} replayed, {left_out} left out)")
+    for row in wrong:
+        print(f"  {'the copy' if row in copies else 'the file'}: {row}")
+    return differing
 
 
 def check(path):
@@ -76,7 +100,7 @@ def check(path):
 
     Of names whose rounding passes 255 only the cipher is compared, see above.
     """
-    names, blocks, policies = _cases(path)
+    names, blocks, policies, moves = _cases(path)
     differing = 0
     for title, cases, differs in (("names", names, _name_differs),
                                   ("blocks", blocks, _block_differs),
@@ -86,4 +110,4 @@ def check(path):
         for case in wrong:
             print(f"  {str(case)[:200]}")
         differing += len(wrong)
-    return differing
+    return differing + _check_moves(moves)

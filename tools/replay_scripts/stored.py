@@ -2,7 +2,7 @@
 
 from bulwarkle_model.script import answers
 
-from . import cases_built, cases_entries, cases_keys, cases_moves, cases_names
+from . import cases_built, cases_entries, cases_kernel, cases_keys, cases_moves, cases_names
 from . import cases_text, cases_wrong_key
 from .corners import order_of_checks
 from .dice import Dice
@@ -67,9 +67,14 @@ def _random():
         yield title, garbage_script(Dice(title), 250, long_lines=False)
 
 
+def _kernel():
+    for title, replay in cases_kernel.replays().items():
+        yield title, replay.script()
+
+
 def stored_set():
     """All scripts in order: pairs of a file name and the script."""
-    scripts = [*_written(), *_built(), *_texts(), *_random()]
+    scripts = [*_written(), *_built(), *_texts(), *_random(), *_kernel()]
     return [(f"{number:02}-{title}.script", script)
             for number, (title, script) in enumerate(scripts, 1)]
 

@@ -13,7 +13,7 @@ ghost use Rattle.volume.specs.Lookup.{inodeAt};
 ghost use Rattle.volume.specs.Checks.{directoryCheck, isPolicyRefused, nonceCheck};
 
 // The policy refusal: policyRefusal of volume/specs/Checks.antt.
-pub const POLICY_REFUSAL: Errno = Errno::EPERM;
+pub const POLICY_REFUSAL: Errno = Errno::EXDEV;
 
 // Whether an encrypted directory would gain an inode that lacks its policy.
 fn is_policy_refused(dir: Inode, node: Inode) -> bool

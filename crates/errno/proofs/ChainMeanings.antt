@@ -7,7 +7,7 @@ use lib.Dec.{eqb}
 use Rattle.errno.specs.Refusals.{number, _⇒_, _>>_, isFine}
 use Rattle.errno.specs.Meanings.{TableMeanings}
 use Rattle.errno.specs.declared.Errno.{Errno}
-use Rattle.errno.specs.declared.Errno.the-variants.{EPERM, ENOENT, EEXIST, ENOTDIR, EINVAL, ENOSPC, ERANGE, ENAMETOOLONG, ENOTEMPTY, ENODATA, ENOTUNIQ, EUCLEAN, ENOKEY}
+use Rattle.errno.specs.declared.Errno.the-variants.{EPERM, ENOENT, EEXIST, EXDEV, ENOTDIR, EINVAL, ENOSPC, ERANGE, ENAMETOOLONG, ENOTEMPTY, ENODATA, ENOTUNIQ, EUCLEAN, ENOKEY}
 use Rattle.errno.specs.declared.Checked.{Checked}
 use Rattle.errno.specs.declared.Checked.the-variants.{Fine, Refused}
 
@@ -18,14 +18,15 @@ is n e = eqb n (number e)
 
 abbrev named : ℕ → Errno
 named n =
-    cond (is n EPERM) EPERM (cond (is n ENOENT) ENOENT (cond (is n EEXIST) EEXIST (cond (is n ENOTDIR) ENOTDIR (cond (is n EINVAL) EINVAL
-    (cond (is n ENOSPC) ENOSPC (cond (is n ERANGE) ERANGE (cond (is n ENAMETOOLONG) ENAMETOOLONG (cond (is n ENOTEMPTY) ENOTEMPTY
-    (cond (is n ENODATA) ENODATA (cond (is n ENOTUNIQ) ENOTUNIQ (cond (is n EUCLEAN) EUCLEAN ENOKEY)))))))))))
+    cond (is n EPERM) EPERM (cond (is n ENOENT) ENOENT (cond (is n EEXIST) EEXIST (cond (is n EXDEV) EXDEV (cond (is n ENOTDIR) ENOTDIR
+    (cond (is n EINVAL) EINVAL (cond (is n ENOSPC) ENOSPC (cond (is n ERANGE) ERANGE (cond (is n ENAMETOOLONG) ENAMETOOLONG (cond (is n ENOTEMPTY) ENOTEMPTY
+    (cond (is n ENODATA) ENODATA (cond (is n ENOTUNIQ) ENOTUNIQ (cond (is n EUCLEAN) EUCLEAN ENOKEY))))))))))))
 
 named-number : (e : Errno) → named (number e) ≡ e
 named-number EPERM = refl
 named-number ENOENT = refl
 named-number EEXIST = refl
+named-number EXDEV = refl
 named-number ENOTDIR = refl
 named-number EINVAL = refl
 named-number ENOSPC = refl

@@ -2,15 +2,16 @@
 use Prim.Native.Nat.{ℕ}
 use mathlib.Core.Bool.{Bool, true, false}
 use Rattle.errno.specs.declared.Errno.{Errno}
-use Rattle.errno.specs.declared.Errno.the-variants.{EPERM, ENOENT, EEXIST, ENOTDIR, EINVAL, ENOSPC, ERANGE, ENAMETOOLONG, ENOTEMPTY, ENODATA, ENOTUNIQ, EUCLEAN, ENOKEY}
+use Rattle.errno.specs.declared.Errno.the-variants.{EPERM, ENOENT, EEXIST, EXDEV, ENOTDIR, EINVAL, ENOSPC, ERANGE, ENAMETOOLONG, ENOTEMPTY, ENODATA, ENOTUNIQ, EUCLEAN, ENOKEY}
 use Rattle.errno.specs.declared.Checked.{Checked}
 use Rattle.errno.specs.declared.Checked.the-variants.{Fine, Refused}
 
--- document 01: "Numbers are Linux's."
+-- document 01: "Numbers are Linux's."; EXDEV is document 02's, Item 2
 abbrev pub number : Errno → ℕ
 number EPERM = 1
 number ENOENT = 2
 number EEXIST = 17
+number EXDEV = 18
 number ENOTDIR = 20
 number EINVAL = 22
 number ENOSPC = 28

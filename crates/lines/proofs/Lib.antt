@@ -3,3 +3,4 @@ pub mod Texts
 pub mod Saying
 pub mod Answering
 pub mod Room
+pub mod Evidence

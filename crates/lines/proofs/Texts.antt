@@ -12,7 +12,7 @@ use borrow.Author.Tests.{leb-true, leb-false}
 use Rattle.lists.specs.Bytes.{Bytes}
 use Rattle.errno.specs.Refusals.{number}
 use Rattle.errno.specs.declared.Errno.{Errno}
-use Rattle.errno.specs.declared.Errno.the-variants.{EPERM, ENOENT, EEXIST, ENOTDIR, EINVAL, ENOSPC, ERANGE, ENAMETOOLONG, ENOTEMPTY, ENODATA, ENOTUNIQ, EUCLEAN, ENOKEY}
+use Rattle.errno.specs.declared.Errno.the-variants.{EPERM, ENOENT, EEXIST, EXDEV, ENOTDIR, EINVAL, ENOSPC, ERANGE, ENAMETOOLONG, ENOTEMPTY, ENODATA, ENOTUNIQ, EUCLEAN, ENOKEY}
 use Rattle.volume.specs.Request.{Form, Plain, Decrypted, Encoded, ShownEntry}
 use Rattle.script.proofs.Digits.{decimal-length}
 use Rattle.script.proofs.Stores.{then-sets}
@@ -35,6 +35,7 @@ abbrev pub shownError : Errno → Bytes
 shownError EPERM = text "error 1 EPERM"
 shownError ENOENT = text "error 2 ENOENT"
 shownError EEXIST = text "error 17 EEXIST"
+shownError EXDEV = text "error 18 EXDEV"
 shownError ENOTDIR = text "error 20 ENOTDIR"
 shownError EINVAL = text "error 22 EINVAL"
 shownError ENOSPC = text "error 28 ENOSPC"
@@ -46,11 +47,12 @@ shownError ENOTUNIQ = text "error 76 ENOTUNIQ"
 shownError EUCLEAN = text "error 117 EUCLEAN"
 shownError ENOKEY = text "error 126 ENOKEY"
 
-error-is : (e : Errno) → shownError e ≡ errorText (number e)
+pub error-is : (e : Errno) → shownError e ≡ errorText (number e)
 unfolding errorText errnoName decimal lastDigits
 error-is EPERM = refl
 error-is ENOENT = refl
 error-is EEXIST = refl
+error-is EXDEV = refl
 error-is ENOTDIR = refl
 error-is EINVAL = refl
 error-is ENOSPC = refl
@@ -66,6 +68,7 @@ error-length : (e : Errno) → length (shownError e) ≤ 30
 error-length EPERM = omega arith
 error-length ENOENT = omega arith
 error-length EEXIST = omega arith
+error-length EXDEV = omega arith
 error-length ENOTDIR = omega arith
 error-length EINVAL = omega arith
 error-length ENOSPC = omega arith

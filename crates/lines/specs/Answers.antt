@@ -20,6 +20,7 @@ errnoName n =
     cond (eqb n 1) "EPERM"
     (cond (eqb n 2) "ENOENT"
     (cond (eqb n 17) "EEXIST"
+    (cond (eqb n 18) "EXDEV"
     (cond (eqb n 20) "ENOTDIR"
     (cond (eqb n 22) "EINVAL"
     (cond (eqb n 28) "ENOSPC"
@@ -30,7 +31,7 @@ errnoName n =
     (cond (eqb n 76) "ENOTUNIQ"
     (cond (eqb n 117) "EUCLEAN"
     (cond (eqb n 126) "ENOKEY"
-    ""))))))))))))
+    "")))))))))))))
 
 -- "A refusal is `error NUMBER NAME`, as `error 17 EEXIST`."
 unfoldable pub errorText : ℕ → Bytes

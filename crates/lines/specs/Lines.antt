@@ -2,12 +2,13 @@
 use Prim.Native.Nat.{ℕ, _+_, _*_, _-_, _≤_}
 use mathlib.Core.Path.{_≡_}
 use mathlib.Core.Bool.{Bool, true, false, cond, _&&_, _||_}
+use mathlib.Core.Option.{Option, some, none}
 use mathlib.Core.List.{[], _++_}
 use lib.ListN.{length, getD, take}
 use lib.Dec.{eqb, leb, ltb}
 use Rattle.lists.specs.Bytes.{Bytes, zeros, laidOver}
 use Rattle.fscrypt.specs.Cipher.{fscrypt}
-use Rattle.volume.specs.Request.{addKey, removeKey, setPolicy, getPolicy, create, link, rename, exchange, remove, find, show, seal, unseal}
+use Rattle.volume.specs.Request.{Request, addKey, removeKey, setPolicy, getPolicy, create, link, rename, exchange, remove, find, show, seal, unseal, Lent, no-buffer, key-buffer, name-buffer, block-buffer, lends}
 use Rattle.volume.specs.Step.{step}
 use Rattle.volume.specs.declared.Volume.{Volume}
 use Rattle.ids.specs.declared.InodeNumber.{InodeNumber}
@@ -28,23 +29,38 @@ inode n = record { 0 = n }
 abbrev pub entry : ℕ → EntryNumber
 entry n = record { 0 = n }
 
--- each request, made of its words: the first and second number, the descriptor, the nonce, and the bytes of KEY, POLICY, NAME or BLOCK;
+-- the request that a line's words make, if they make one: of the first and second number, the descriptor, the nonce, and the bytes of KEY, POLICY, NAME or BLOCK;
 -- "SIZE is the size of the name buffer lent, .., at most 4096 (more is malformed)"
+abbrev pub requestOf : Verb → Args → Bytes → Option Request
+requestOf AddKey a t = some (addKey (a .descriptor) t)
+requestOf RemoveKey a t = some (removeKey (a .descriptor))
+requestOf SetPolicy a t = some (setPolicy (inode (a .first)) t (a .nonce))
+requestOf GetPolicy a t = some (getPolicy (inode (a .first)))
+requestOf Create a t = some (create (inode (a .first)) (a .second) t (a .nonce))
+requestOf Link a t = some (link (inode (a .first)) (inode (a .second)) t)
+requestOf Rename a t = some (rename (entry (a .first)) (inode (a .second)) t)
+requestOf Exchange a t = some (exchange (entry (a .first)) (entry (a .second)))
+requestOf Remove a t = some (remove (entry (a .first)))
+requestOf Find a t = some (find (inode (a .first)) t)
+requestOf Show a t = cond (leb (a .second) 4096) (some (show (entry (a .first)) (zeros (a .second)))) none
+requestOf Seal a t = some (seal (inode (a .first)) (a .second) t)
+requestOf Open a t = some (unseal (inode (a .first)) (a .second) t)
+requestOf Unknown a t = none
+
+-- a request that lends a block, as seal and open do, answers with it
+abbrev pub answersBlock : Lent → Bool
+answersBlock no-buffer = false
+answersBlock (key-buffer b) = false
+answersBlock (name-buffer b) = false
+answersBlock (block-buffer b) = true
+
+-- what is said to a request, or where there is none
+abbrev pub toldTo : Volume → Option Request → Said
+toldTo v none = malformed v
+toldTo v (some r) = told (answersBlock (lends r)) (step fscrypt v r)
+
 unfoldable pub respond : Volume → Verb → Args → Bytes → Said
-respond v AddKey a t = told false (step fscrypt v (addKey (a .descriptor) t))
-respond v RemoveKey a t = told false (step fscrypt v (removeKey (a .descriptor)))
-respond v SetPolicy a t = told false (step fscrypt v (setPolicy (inode (a .first)) t (a .nonce)))
-respond v GetPolicy a t = told false (step fscrypt v (getPolicy (inode (a .first))))
-respond v Create a t = told false (step fscrypt v (create (inode (a .first)) (a .second) t (a .nonce)))
-respond v Link a t = told false (step fscrypt v (link (inode (a .first)) (inode (a .second)) t))
-respond v Rename a t = told false (step fscrypt v (rename (entry (a .first)) (inode (a .second)) t))
-respond v Exchange a t = told false (step fscrypt v (exchange (entry (a .first)) (entry (a .second))))
-respond v Remove a t = told false (step fscrypt v (remove (entry (a .first))))
-respond v Find a t = told false (step fscrypt v (find (inode (a .first)) t))
-respond v Show a t = cond (leb (a .second) 4096) (told false (step fscrypt v (show (entry (a .first)) (zeros (a .second))))) (malformed v)
-respond v Seal a t = told true (step fscrypt v (seal (inode (a .first)) (a .second) t))
-respond v Open a t = told true (step fscrypt v (unseal (inode (a .first)) (a .second) t))
-respond v Unknown a t = malformed v
+respond v verb a t = toldTo v (requestOf verb a t)
 
 -- "one carriage return at the end is dropped"
 unfoldable pub withoutReturn : Bytes → Bytes

@@ -29,6 +29,7 @@ pub fn put_refusal(out: &mut [u8], e: Errno) -> usize
         Errno::EPERM => output::put(out, 0, b"error 1 EPERM"),
         Errno::ENOENT => output::put(out, 0, b"error 2 ENOENT"),
         Errno::EEXIST => output::put(out, 0, b"error 17 EEXIST"),
+        Errno::EXDEV => output::put(out, 0, b"error 18 EXDEV"),
         Errno::ENOTDIR => output::put(out, 0, b"error 20 ENOTDIR"),
         Errno::EINVAL => output::put(out, 0, b"error 22 EINVAL"),
         Errno::ENOSPC => output::put(out, 0, b"error 28 ENOSPC"),

@@ -15,6 +15,7 @@ ghost use Prim.Native.Nat.{_+_, _*_, _≤_};
 ghost use lib.ListN.{length, take};
 ghost use Rattle.io.specs.Counts.{Counts};
 ghost use Rattle.lists.specs.Bytes.{zeros};
+ghost use Rattle.lines.specs.Evidence.{Evidence};
 ghost use Rattle.lines.specs.Lines.{withoutReturn, isSkipped, directed, commanded, answered, Responds, Replies, hasRoom, lineOutcome, answeredIn};
 
 // What is said to a line: so many bytes at the start of the output buffer, and the volume then.
@@ -155,3 +156,9 @@ pub fn answer_line(v: Volume, line: &[u8], payload: &mut [u8], out: &mut [u8]) -
         volume: w,
     }
 }
+
+// A line is answered `error 18 EXDEV` exactly where it makes a request that is refused with 18, and this proves that an encrypted directory would have gained what lacks its
+// policy. The function does nothing: its `ensures` is the theorem.
+pub fn error_18_is_evidence()
+    ensures { λ _. ⌜ Evidence ⌝ }
+{}

@@ -73,3 +73,15 @@ module _ (C : Cipher) (P : Volume → Type 0) where
   pub kept-always : P fresh → ((v : Volume) → P v → (r : Request) → Typed r → P ((step C v r) .volume))
       → (rs : List Request) → AllTyped rs → (m : Moment) → List·Memᴰ m (run C rs) → P (m .volume)
   kept-always p kept rs t = kept-while (λ v. Unit {0}) (λ v p r t q. kept v p r t) rs fresh p t (λ m h. tt)
+
+-- every moment of a run is its request on some volume
+pub was-step : (C : Cipher) (rs : List Request) (v : Volume) (m : Moment) → List·Memᴰ m (runFrom C v rs) → (w : Volume) × (m ≡ momentOf (m .request) (step C w (m .request)))
+unfolding runFrom momentOf
+was-step C [] v m h = absurd (List·Memᴰ·not-nil h)
+was-step C (r ∷ rs) v m h = go (List·Memᴰ·cases-cons h) (was-step C rs ((step C v r) .volume) m)
+  where
+    go : (m ≡ momentOf r (step C v r)) ⊎ List·Memᴰ m (runFrom C ((step C v r) .volume) rs)
+        → (List·Memᴰ m (runFrom C ((step C v r) .volume) rs) → (w : Volume) × (m ≡ momentOf (m .request) (step C w (m .request))))
+        → (w : Volume) × (m ≡ momentOf (m .request) (step C w (m .request)))
+    go (inl e) later = (v, e ∙ ap (λ (x : Request). momentOf x (step C v x)) (sym (ap (λ (x : Moment). x .request) e)))
+    go (inr z) later = later z

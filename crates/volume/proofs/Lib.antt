@@ -7,6 +7,7 @@ mod Occasions
 -- one request, and lists of requests
 mod Kept
 mod Touching
+mod Refusing
 mod SoundPolicy
 pub mod PlainMeanings
 pub mod Passed

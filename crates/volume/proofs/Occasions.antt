@@ -74,7 +74,7 @@ occasions =
     ∷ link (inode 4) (inode 3) (122 ∷ []) answers refused 20
     ∷ link (inode 4) (inode 6) (122 ∷ []) answers refused 1
     ∷ link (inode 3) (inode 6) (122 ∷ []) answers refused 126
-    ∷ link (inode 3) (inode 1) (97 ∷ []) answers refused 1
+    ∷ link (inode 3) (inode 1) (97 ∷ []) answers refused 18
     ∷ link (inode 2) (inode 1) (97 ∷ []) answers refused 17
     -- rename: name, entry, parent there, parent a directory, key of the old parent, of the new, policy, directory under itself, name taken, its own name too
     ∷ rename (entry 50) (inode 3) (zeros 256) answers refused 36
@@ -83,7 +83,7 @@ occasions =
     ∷ rename (entry 8) (inode 3) (122 ∷ []) answers refused 20
     ∷ rename (entry 8) (inode 1) (122 ∷ []) answers refused 126
     ∷ rename (entry 2) (inode 6) (122 ∷ []) answers refused 126
-    ∷ rename (entry 3) (inode 5) (117 ∷ []) answers refused 1
+    ∷ rename (entry 3) (inode 5) (117 ∷ []) answers refused 18
     ∷ rename (entry 0) (inode 8) (116 ∷ []) answers refused 22
     -- the new parent itself
     ∷ rename (entry 0) (inode 1) (97 ∷ []) answers refused 22
@@ -96,9 +96,9 @@ occasions =
     ∷ exchange (entry 2) (entry 8) answers refused 126
     -- an entry with itself needs the key
     ∷ exchange (entry 8) (entry 8) answers refused 126
-    ∷ exchange (entry 1) (entry 2) answers refused 1
-    ∷ exchange (entry 2) (entry 1) answers refused 1
-    ∷ exchange (entry 3) (entry 11) answers refused 1
+    ∷ exchange (entry 1) (entry 2) answers refused 18
+    ∷ exchange (entry 2) (entry 1) answers refused 18
+    ∷ exchange (entry 3) (entry 11) answers refused 18
     ∷ exchange (entry 0) (entry 10) answers refused 22
     ∷ exchange (entry 10) (entry 0) answers refused 22
     ∷ exchange (entry 2) (entry 2) answers done
@@ -129,11 +129,11 @@ occasions =
     ∷ create (inode 0) 1 (102 ∷ []) (nonce 0) answers created (inode 13) (entry 12)
     ∷ setPolicy (inode 13) (policy 1 7) (nonce 9) answers done
     ∷ create (inode 13) 2 (97 ∷ []) (nonce 10) answers created (inode 14) (entry 13)
-    ∷ link (inode 2) (inode 13) (122 ∷ []) answers refused 1
-    ∷ link (inode 9) (inode 1) (122 ∷ []) answers refused 1
-    ∷ rename (entry 1) (inode 13) (122 ∷ []) answers refused 1
-    ∷ exchange (entry 1) (entry 13) answers refused 1
-    ∷ exchange (entry 13) (entry 1) answers refused 1
+    ∷ link (inode 2) (inode 13) (122 ∷ []) answers refused 18
+    ∷ link (inode 9) (inode 1) (122 ∷ []) answers refused 18
+    ∷ rename (entry 1) (inode 13) (122 ∷ []) answers refused 18
+    ∷ exchange (entry 1) (entry 13) answers refused 18
+    ∷ exchange (entry 13) (entry 1) answers refused 18
     -- seal and open, each kind that is not a regular file: the encrypted directory 1 with its symlink 15 and special file 7, and the root with its symlink 16 and
     -- special file 17, where the context lacks too
     ∷ create (inode 1) 3 (98 ∷ []) (nonce 11) answers created (inode 15) (entry 14)
@@ -175,16 +175,16 @@ occasions =
     ∷ link (inode 0) (inode 4) (122 ∷ []) answers refused 1
     ∷ link (inode 0) (inode 0) (112 ∷ []) answers refused 1
     -- a plain symlink is kept out of the encrypted directory, and a special file is not: there its name is what is taken
-    ∷ link (inode 16) (inode 1) (97 ∷ []) answers refused 1
-    ∷ rename (entry 15) (inode 1) (97 ∷ []) answers refused 1
-    ∷ exchange (entry 15) (entry 14) answers refused 1
-    ∷ exchange (entry 14) (entry 15) answers refused 1
+    ∷ link (inode 16) (inode 1) (97 ∷ []) answers refused 18
+    ∷ rename (entry 15) (inode 1) (97 ∷ []) answers refused 18
+    ∷ exchange (entry 15) (entry 14) answers refused 18
+    ∷ exchange (entry 14) (entry 15) answers refused 18
     ∷ link (inode 17) (inode 1) (97 ∷ []) answers refused 17
     ∷ rename (entry 16) (inode 1) (97 ∷ []) answers refused 17
     -- a wrong key, under which the name does not decrypt
     ∷ addKey (descriptor 8) (key 19) answers done
     ∷ show (entry 8) (zeros 255) answers refused 117
-    ∷ rename (entry 8) (inode 1) (122 ∷ []) answers refused 1
+    ∷ rename (entry 8) (inode 1) (122 ∷ []) answers refused 18
     -- a full keyring: the descriptor before room
     ∷ addKey (descriptor 9) (key 9) answers done
     ∷ addKey (descriptor 10) (key 10) answers done

@@ -26,7 +26,7 @@ use Rattle.volume.proofs.SoundPolicy.{may-hold}
 
 -- ---- lines that requests share
 
-is-directory : (v : Volume) (p : InodeNumber) → directoryCheck v p ≡ Fine → (inodeAt v p) .kind ≡ 1
+pub is-directory : (v : Volume) (p : InodeNumber) → directoryCheck v p ≡ Fine → (inodeAt v p) .kind ≡ 1
 unfolding directoryCheck
 is-directory v p h = let (there, (dir, end)) = simp (line, test) at h in eqb-true (not-false dir)
 

@@ -40,7 +40,7 @@ nonce-needed : (dir : Inode) (k : ℕ) → (isNonceNeeded dir k ≡ true) ↔ ((
 unfolding isNonceNeeded
 nonce-needed dir k = both (dir .encrypted) Iff·rfl _ (at-most k 3)
 
-policy-refused : (dir node : Inode) → (isPolicyRefused dir node ≡ true) ↔ WouldLack dir node
+pub policy-refused : (dir node : Inode) → (isPolicyRefused dir node ≡ true) ↔ WouldLack dir node
 policy-refused dir node = (lacks-policy dir node, λ w. by-test (isPolicyRefused dir node) (λ t. t) (λ f. absurd (not-lacking dir node f w)))
 
 answers : AnswersStand

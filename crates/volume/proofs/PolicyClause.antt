@@ -1,237 +1,244 @@
--- The policy clause: once the earlier checks have passed, link, rename and exchange give the policy refusal exactly when an encrypted directory would gain a
--- regular file, directory or symlink that lacks its policy. A table is gone through line by line, and the later lines have other numbers. Assumes nothing.
-use Prim.Native.Nat.{ℕ}
+-- The policy clause: link, rename and exchange give the policy refusal exactly when their earlier checks have passed and an encrypted directory would gain a regular
+-- file, directory or symlink that lacks its policy, and no other request gives its number. A table comes to it at one line, or two, and its other lines have other
+-- numbers. Assumes nothing.
+use Prim.Native.Nat.{ℕ, _<_}
 use native.Mathlib.Omega.{arith}
 use mathlib.Core.Path.{_≡_, refl, sym, _∙_, ap, subst}
-use mathlib.Core.Logic.{_≢_, _⊎_, inl, inr, _↔_}
-use mathlib.Core.Bool.{Bool, true, false, true≢false}
-use mathlib.Core.List.{[]}
+use mathlib.Core.Logic.{_⊎_, inl, inr, _↔_}
+use mathlib.Core.Bool.{Bool, true, false}
+use mathlib.Core.List.{List, List·Memᴰ}
+use lib.Dec.{eqb}
+use borrow.Author.Tests.{eqb-false}
 use Rattle.lists.specs.Bytes.{Bytes}
-use Rattle.errno.specs.Refusals.{_⇒_, _>>_, number}
-use Rattle.errno.specs.declared.Errno.{Errno}
-use Rattle.errno.specs.declared.Errno.the-variants.{EPERM, ENOENT, EEXIST, ENOTDIR, EINVAL, ENOSPC, ENAMETOOLONG, ENOKEY}
-use Rattle.errno.specs.declared.Checked.{Checked}
+use Rattle.lists.proofs.Slots.{by-test}
+use Rattle.errno.specs.declared.Errno.the-variants.{EXDEV}
 use Rattle.errno.specs.declared.Checked.the-variants.{Fine, Refused}
+use Rattle.policy.specs.Policies.{policyCheck}
 use Rattle.fscrypt.specs.Cipher.{Cipher, Lawful}
 use Rattle.fscrypt.specs.Names.{nameCheck}
-use Rattle.volume.specs.Request.{rename, link, exchange, refused, Outcome}
-use Rattle.volume.specs.Lookup.{inodeAt, isDirectory, entryAt, Used, dirOf, nodeOf}
-use Rattle.volume.specs.Checks.{directoryCheck, policyRefusal, linkCheck, renameCheck, exchangeCheck}
-use Rattle.volume.specs.Step.{lent, check, effect, settle, step}
+use Rattle.volume.specs.Volume.{fresh}
+use Rattle.volume.specs.Request.{Request, addKey, removeKey, setPolicy, getPolicy, create, link, rename, exchange, remove, find, show, seal, unseal, refused, Outcome, AllTyped}
+use Rattle.volume.specs.Lookup.{lacksKey, inodeAt, isFree, isDirectory, entryAt, isVacant, Used, dirOf, nodeOf}
+use Rattle.volume.specs.Checks.{directoryCheck, nonceCheck, isPolicyRefused, addKeyCheck, removeKeyCheck, setPolicyCheck, getPolicyCheck, createCheck, linkCheck, renameCheck, exchangeCheck, removeCheck, findCheck, showCheck, blockCheck}
+use Rattle.volume.specs.Step.{check}
+use Rattle.volume.specs.Run.{Moment, momentOf, run}
 use Rattle.volume.specs.Sound.{Sound, MayHold}
-use Rattle.volume.specs.PolicyClause.{WouldLack, LinkReady, RenameReady, ExchangeReady, GivesRefusal, PolicyClause}
+use Rattle.volume.specs.PolicyClause.{WouldLack, LinkReady, RenameReady, ExchangeReady, WouldGain, linked, renamed, exchanged-one, exchanged-other, WouldMisplace, GivesRefusal, PolicyClause}
 use Rattle.ids.specs.declared.InodeNumber.{InodeNumber}
 use Rattle.ids.specs.declared.EntryNumber.{EntryNumber}
+use Rattle.volume.specs.declared.Inode.{Inode}
 use Rattle.volume.specs.declared.Volume.{Volume}
-use Rattle.volume.proofs.SoundPolicy.{lacks-policy, not-lacking}
-use Rattle.volume.proofs.Soundness.{at-no-time}
+use Rattle.volume.proofs.Kept.{was-step}
+use Rattle.volume.proofs.Refusing.{Never, refused-by, nevers, past, past-line, at-line, at-last-line}
+use Rattle.volume.proofs.PlainMeanings.{policy-refused}
+use Rattle.volume.proofs.Passed.{is-directory}
+use Rattle.volume.proofs.Leaves.{leaves}
+use Rattle.volume.proofs.Soundness.{sound, at-no-time}
 
--- ---- going through a table
+-- ---- the other tables, and the parts that tables share, do not come to it
 
--- a table that does not come to the policy refusal
-data Other : Checked → Type 0 where
-  other-number : (e : Errno) → number e ≢ number policyRefusal → Other (Refused e)
-  passes : Other Fine
+module _ (v : Volume) where
+  name-never : (n : Bytes) → Never EXDEV (nameCheck n)
+  unfolding nameCheck
+  name-never n = search nevers depth 25
 
-later : (c : Bool) (e : Errno) (next : Checked) → number e ≢ number policyRefusal → Other next → Other (_>>_ (c ⇒ e) next)
-unfolding _>>_ _⇒_
-later true e next ne w = other-number e ne
-later false e next ne w = w
+  directory-never : (p : InodeNumber) → Never EXDEV (directoryCheck v p)
+  unfolding directoryCheck
+  directory-never p = search nevers depth 25
 
-abbrev numbered : Checked → ℕ
-numbered (Refused e) = number e
-numbered Fine = 0
+  nonce-never : (x : Bytes) → Never EXDEV (nonceCheck v x)
+  unfolding nonceCheck
+  nonce-never x = search nevers depth 25
 
--- the answer is the policy refusal exactly when D, of a request with this lent buffer, this outcome where its check is fine, and this check
-record Exactly (v : Volume) (b : Bytes) (o : Outcome) (D : Type 0) (k : Checked) : Type 0 where
-  gives : (settle v b k o) .answer ≡ refused (number policyRefusal) → D
-  only : D → (settle v b k o) .answer ≡ refused (number policyRefusal)
+  policy-never : (b : Bytes) → Never EXDEV (policyCheck b)
+  unfolding policyCheck
+  policy-never b = search nevers depth 25
 
-module _ {v : Volume} {b : Bytes} {o : Outcome} {D : Type 0} where
-  skip : (a next : Checked) → a ≡ Fine → Exactly v b o D next → Exactly v b o D (_>>_ a next)
-  unfolding _>>_
-  skip a next h w = subst (λ (x : Checked). Exactly v b o D (_>>_ x next)) (sym h) w
-
-  skip-test : (c : Bool) (e : Errno) (next : Checked) → c ≡ false → Exactly v b o D next → Exactly v b o D (_>>_ (c ⇒ e) next)
-  unfolding _>>_ _⇒_
-  skip-test true e next h w = absurd (true≢false h)
-  skip-test false e next h w = w
-
-  decide : (c : Bool) (next : Checked) → (c ≡ true → D) → (c ≡ false → Exactly v b o D next) → Exactly v b o D (_>>_ (c ⇒ policyRefusal) next)
-  unfolding _>>_ _⇒_ settle
-  decide true next t f = record { gives = λ e. t refl; only = λ d. refl }
-  decide false next t f = f refl
-
-  never : {k : Checked} → o .answer ≢ refused (number policyRefusal) → (D → ⊥) → Other k → Exactly v b o D k
-  unfolding settle
-  never na nd (other-number e ne) = record { gives = λ q. absurd (ne (cc)); only = λ d. absurd (nd d) }
-  never na nd passes = record { gives = λ q. absurd (na q); only = λ d. absurd (nd d) }
-
--- a line before the policy's passed, where the answer is the policy refusal
-module _ (v : Volume) (b : Bytes) (o : Outcome) where
-  abbrev Refuses : Checked → Type 0
-  Refuses k = (settle v b k o) .answer ≡ refused (number policyRefusal)
-
-  peel-fine : (a next : Checked) → Other a → Refuses (_>>_ a next) → (a ≡ Fine) × Refuses next
-  unfolding _>>_ settle
-  peel-fine (Refused e) next w h = absurd (go (Refused e) w refl)
-    where
-      go : (k : Checked) → Other k → k ≡ Refused e → ⊥
-      go k (other-number f ne) q = let z : number e ≡ number policyRefusal = cc in ne (ap numbered q ∙ z)
-      go k passes q = let z : _≡_ {A = ℕ} 0 1 = cc in absurd (omega arith)
-  peel-fine Fine next w h = (refl, h)
-
-  peel : (c : Bool) (e : Errno) (next : Checked) → number e ≢ number policyRefusal → Refuses (_>>_ (c ⇒ e) next) → (c ≡ false) × Refuses next
-  unfolding _>>_ _⇒_ settle
-  peel true e next ne h = absurd (ne (cc))
-  peel false e next ne h = (refl, h)
-
-  peel-known : (c : Bool) (e : Errno) (next : Checked) → c ≡ false → Refuses (_>>_ (c ⇒ e) next) → Refuses next
-  unfolding _>>_ _⇒_
-  peel-known true e next z h = absurd (true≢false z)
-  peel-known false e next z h = h
-
-name-other : (n : Bytes) → Other (nameCheck n)
-unfolding nameCheck
-name-other n = later _ ENOENT _ (omega arith) (later _ ENAMETOOLONG _ (omega arith) (later _ EINVAL _ (omega arith) passes))
-
-directory-other : (v : Volume) (p : InodeNumber) → Other (directoryCheck v p)
-unfolding directoryCheck
-directory-other v p = later _ ENOENT _ (omega arith) (later _ ENOTDIR _ (omega arith) passes)
-
-neither : {X Y : Type 0} → (X → ⊥) → (Y → ⊥) → X ⊎ Y → ⊥
-neither f g (inl x) = f x
-neither f g (inr y) = g y
+ruleset tables = (nevers, name-never, directory-never, nonce-never, policy-never)
 
 -- ---- the three requests
 
-module _ (C : Cipher) (v : Volume) where
-  pub link-exactly : (i p : InodeNumber) (n : Bytes) → LinkReady v i p n → GivesRefusal C v (link i p n) ↔ WouldLack (inodeAt v p) (inodeAt v i)
-  unfolding step lent check effect linkCheck
-  link-exactly i p n h = (table .gives, table .only)
-    where
-      o : Outcome
-      o = effect C v (link i p n)
+-- one of two tests, the second looked at where the first fails
+either : {s t : Bool} {A B : Type 0} → ((s ≡ true) ↔ A) → ((t ≡ true) ↔ B) → ((s ≡ true) ⊎ ((s ≡ false) × (t ≡ true))) ↔ (A ⊎ B)
+either {s} {t} {A} {B} f g = (to, from)
+  where
+    to : (s ≡ true) ⊎ ((s ≡ false) × (t ≡ true)) → A ⊎ B
+    to (inl h) = inl (f .0 h)
+    to (inr h) = inr (g .0 (h .1))
 
-      D : Type 0
-      D = WouldLack (inodeAt v p) (inodeAt v i)
-
-      table : Exactly v [] o D (check C v (link i p n))
-      table =
-          skip _ _ (h .name)
-          (skip-test _ ENOENT _ (h .inode)
-          (skip _ _ (h .parent)
-          (skip-test _ EPERM _ (h .not-directory)
-          (skip-test _ ENOKEY _ (h .key)
-          (decide _ _ (lacks-policy _ _) λ f.
-          never (λ q. let z : _≡_ {A = ℕ} 0 1 = cc in absurd (omega arith)) (not-lacking _ _ f)
-          (later _ EEXIST _ (omega arith) (later _ ENOSPC _ (omega arith) passes)))))))
-
-  pub rename-exactly : (e : EntryNumber) (p : InodeNumber) (n : Bytes) → RenameReady v e p n
-      → GivesRefusal C v (rename e p n) ↔ WouldLack (inodeAt v p) (nodeOf v (e .0))
-  unfolding step lent check effect renameCheck
-  rename-exactly e p n h = (table .gives, table .only)
-    where
-      o : Outcome
-      o = effect C v (rename e p n)
-
-      D : Type 0
-      D = WouldLack (inodeAt v p) (nodeOf v (e .0))
-
-      table : Exactly v [] o D (check C v (rename e p n))
-      table =
-          skip _ _ (h .name)
-          (skip-test _ ENOENT _ (h .entry)
-          (skip _ _ (h .parent)
-          (skip-test _ ENOKEY _ (h .old-key)
-          (skip-test _ ENOKEY _ (h .key)
-          (decide _ _ (lacks-policy _ _) λ f.
-          never (λ q. let z : _≡_ {A = ℕ} 0 1 = cc in absurd (omega arith)) (not-lacking _ _ f)
-          (later _ EINVAL _ (omega arith) (later _ EEXIST _ (omega arith) passes)))))))
-
-  pub exchange-exactly : (a b : EntryNumber) → ExchangeReady v a b
-      → GivesRefusal C v (exchange a b) ↔ (WouldLack (dirOf v (a .0)) (nodeOf v (b .0)) ⊎ WouldLack (dirOf v (b .0)) (nodeOf v (a .0)))
-  unfolding step lent check effect exchangeCheck
-  exchange-exactly a b h = (table .gives, table .only)
-    where
-      o : Outcome
-      o = effect C v (exchange a b)
-
-      D : Type 0
-      D = WouldLack (dirOf v (a .0)) (nodeOf v (b .0)) ⊎ WouldLack (dirOf v (b .0)) (nodeOf v (a .0))
-
-      table : Exactly v [] o D (check C v (exchange a b))
-      table =
-          skip-test _ ENOENT _ (h .one)
-          (skip-test _ ENOENT _ (h .other)
-          (skip-test _ ENOKEY _ (h .one-key)
-          (skip-test _ ENOKEY _ (h .other-key)
-          (decide _ _ (λ t. inl (lacks-policy _ _ t)) λ f₁.
-          decide _ _ (λ t. inr (lacks-policy _ _ t)) λ f₂.
-          never (λ q. let z : _≡_ {A = ℕ} 0 1 = cc in absurd (omega arith)) (neither (not-lacking _ _ f₁) (not-lacking _ _ f₂))
-          (later _ EINVAL _ (omega arith) (later _ EINVAL _ (omega arith) passes))))))
-
--- ---- where the refusal is given, the earlier checks passed
+    from : A ⊎ B → (s ≡ true) ⊎ ((s ≡ false) × (t ≡ true))
+    from (inl a) = inl (f .1 a)
+    from (inr b) = by-test s (λ h. inl h) (λ h. inr (h, g .1 b))
 
 module _ (C : Cipher) (v : Volume) where
-  link-ready : (i p : InodeNumber) (n : Bytes) → GivesRefusal C v (link i p n) → isDirectory (inodeAt v i) ≡ false → LinkReady v i p n
-  unfolding step lent check linkCheck
-  link-ready i p n h nd =
-      let o = effect C v (link i p n) in
-      let a = peel-fine v [] o _ _ (name-other n) h in
-      let b = peel v [] o _ ENOENT _ (omega arith) (a .1) in
-      let c = peel-fine v [] o _ _ (directory-other v p) (b .1) in
-      let d = peel-known v [] o _ EPERM _ nd (c .1) in
-      let k = peel v [] o _ ENOKEY _ (omega arith) d in
-      record { name = a .0; inode = b .0; parent = c .0; not-directory = nd; key = k .0 }
+  link-exactly : (i p : InodeNumber) (n : Bytes) → GivesRefusal C v (link i p n) ↔ (LinkReady v i p n × WouldLack (inodeAt v p) (inodeAt v i))
+  unfolding check linkCheck
+  link-exactly i p n = (
+    λ h.
+        let (name, (inode, (parent, (other, (key, policy))))) = table .0 (answer .0 h) in
+        (record { name = name; inode = inode; parent = parent; not-directory = other; key = key }, policy-refused _ _ .0 policy),
+    λ d. let r = d .0 in answer .1 (table .1 (r .name, (r .inode, (r .parent, (r .not-directory, (r .key, policy-refused _ _ .1 (d .1))))))),
+  )
+    where
+      answer : GivesRefusal C v (link i p n) ↔ (linkCheck C v i p n ≡ Refused EXDEV)
+      answer = refused-by C v (link i p n) EXDEV
 
-  rename-ready : (e : EntryNumber) (p : InodeNumber) (n : Bytes) → GivesRefusal C v (rename e p n) → RenameReady v e p n
-  unfolding step lent check renameCheck
-  rename-ready e p n h =
-      let o = effect C v (rename e p n) in
-      let a = peel-fine v [] o _ _ (name-other n) h in
-      let b = peel v [] o _ ENOENT _ (omega arith) (a .1) in
-      let c = peel-fine v [] o _ _ (directory-other v p) (b .1) in
-      let d = peel v [] o _ ENOKEY _ (omega arith) (c .1) in
-      let k = peel v [] o _ ENOKEY _ (omega arith) (d .1) in
-      record { name = a .0; entry = b .0; parent = c .0; old-key = d .0; key = k .0 }
+      Table : Type 0
+      Table =
+          (nameCheck n ≡ Fine) × ((isFree (inodeAt v i) ≡ false) × ((directoryCheck v p ≡ Fine) × ((isDirectory (inodeAt v i) ≡ false) × ((lacksKey v (inodeAt v p) ≡ false)
+          × (isPolicyRefused (inodeAt v p) (inodeAt v i) ≡ true)))))
 
-  exchange-ready : (x y : EntryNumber) → GivesRefusal C v (exchange x y) → ExchangeReady v x y
-  unfolding step lent check exchangeCheck
-  exchange-ready x y h =
-      let o = effect C v (exchange x y) in
-      let a = peel v [] o _ ENOENT _ (omega arith) h in
-      let b = peel v [] o _ ENOENT _ (omega arith) (a .1) in
-      let c = peel v [] o _ ENOKEY _ (omega arith) (b .1) in
-      let d = peel v [] o _ ENOKEY _ (omega arith) (c .1) in
-      record { one = a .0; other = b .0; one-key = c .0; other-key = d .0 }
+      table : (linkCheck C v i p n ≡ Refused EXDEV) ↔ Table
+      table =
+          past (name-never v n)
+          (past-line _ refl
+          (past (directory-never v p)
+          (past-line _ refl
+          (past-line _ refl
+          (at-last-line (search tables))))))
 
--- ---- on a sound volume a move within one directory is never a policy refusal: the directory gains nothing
+  rename-exactly : (e : EntryNumber) (p : InodeNumber) (n : Bytes) → GivesRefusal C v (rename e p n) ↔ (RenameReady v e p n × WouldLack (inodeAt v p) (nodeOf v (e .0)))
+  unfolding check renameCheck
+  rename-exactly e p n = (
+    λ h.
+        let (name, (entry, (parent, (old, (key, policy))))) = table .0 (answer .0 h) in
+        (record { name = name; entry = entry; parent = parent; old-key = old; key = key }, policy-refused _ _ .0 policy),
+    λ d. let r = d .0 in answer .1 (table .1 (r .name, (r .entry, (r .parent, (r .old-key, (r .key, policy-refused _ _ .1 (d .1))))))),
+  )
+    where
+      answer : GivesRefusal C v (rename e p n) ↔ (renameCheck C v e p n ≡ Refused EXDEV)
+      answer = refused-by C v (rename e p n) EXDEV
+
+      Table : Type 0
+      Table =
+          (nameCheck n ≡ Fine) × ((isVacant (entryAt v e) ≡ false) × ((directoryCheck v p ≡ Fine) × ((lacksKey v (dirOf v (e .0)) ≡ false) × ((lacksKey v (inodeAt v p) ≡ false)
+          × (isPolicyRefused (inodeAt v p) (nodeOf v (e .0)) ≡ true)))))
+
+      table : (renameCheck C v e p n ≡ Refused EXDEV) ↔ Table
+      table =
+          past (name-never v n)
+          (past-line _ refl
+          (past (directory-never v p)
+          (past-line _ refl
+          (past-line _ refl
+          (at-last-line (search tables))))))
+
+  exchange-exactly : (a b : EntryNumber)
+      → GivesRefusal C v (exchange a b) ↔ (ExchangeReady v a b × (WouldLack (dirOf v (a .0)) (nodeOf v (b .0)) ⊎ WouldLack (dirOf v (b .0)) (nodeOf v (a .0))))
+  unfolding check exchangeCheck
+  exchange-exactly a b = (
+    λ h.
+        let (one, (other, (one-key, (other-key, policy)))) = table .0 (answer .0 h) in
+        (record { one = one; other = other; one-key = one-key; other-key = other-key }, sides .0 policy),
+    λ d. let r = d .0 in answer .1 (table .1 (r .one, (r .other, (r .one-key, (r .other-key, sides .1 (d .1)))))),
+  )
+    where
+      answer : GivesRefusal C v (exchange a b) ↔ (exchangeCheck v a b ≡ Refused EXDEV)
+      answer = refused-by C v (exchange a b) EXDEV
+
+      Sides : Type 0
+      Sides =
+          (isPolicyRefused (dirOf v (a .0)) (nodeOf v (b .0)) ≡ true)
+          ⊎ ((isPolicyRefused (dirOf v (a .0)) (nodeOf v (b .0)) ≡ false) × (isPolicyRefused (dirOf v (b .0)) (nodeOf v (a .0)) ≡ true))
+
+      sides : Sides ↔ (WouldLack (dirOf v (a .0)) (nodeOf v (b .0)) ⊎ WouldLack (dirOf v (b .0)) (nodeOf v (a .0)))
+      sides = either (policy-refused _ _) (policy-refused _ _)
+
+      Table : Type 0
+      Table =
+          (isVacant (entryAt v a) ≡ false) × ((isVacant (entryAt v b) ≡ false) × ((lacksKey v (dirOf v (a .0)) ≡ false) × ((lacksKey v (dirOf v (b .0)) ≡ false) × Sides)))
+
+      table : (exchangeCheck v a b ≡ Refused EXDEV) ↔ Table
+      table =
+          past-line _ refl
+          (past-line _ refl
+          (past-line _ refl
+          (past-line _ refl
+          (at-line (at-last-line (search tables))))))
+
+-- ---- the number alone
+
+module _ (C : Cipher) (v : Volume) where
+  -- a request whose table does not come to the refusal
+  other : (r : Request) → Never EXDEV (check C v r) → GivesRefusal C v r → WouldMisplace v r
+  other r f h = absurd (f .no (refused-by C v r EXDEV .0 h))
+
+  swapped : (a b : EntryNumber) → WouldLack (dirOf v (a .0)) (nodeOf v (b .0)) ⊎ WouldLack (dirOf v (b .0)) (nodeOf v (a .0)) → WouldMisplace v (exchange a b)
+  swapped a b (inl w) = record { dir = dirOf v (a .0); node = nodeOf v (b .0); gained = exchanged-one a b; lacking = w }
+  swapped a b (inr w) = record { dir = dirOf v (b .0); node = nodeOf v (a .0); gained = exchanged-other a b; lacking = w }
+
+  by-number : (r : Request) → GivesRefusal C v r → WouldMisplace v r
+  unfolding check addKeyCheck removeKeyCheck setPolicyCheck getPolicyCheck createCheck removeCheck findCheck showCheck blockCheck
+  by-number (addKey d k) = other (addKey d k) (search tables depth 25)
+  by-number (removeKey d) = other (removeKey d) (search tables depth 25)
+  by-number (setPolicy i p x) = other (setPolicy i p x) (search tables depth 25)
+  by-number (getPolicy i) = other (getPolicy i) (search tables depth 25)
+  by-number (create p kind n x) = other (create p kind n x) (search tables depth 25)
+  by-number (link i p n) = λ h. record { dir = inodeAt v p; node = inodeAt v i; gained = linked i p n; lacking = link-exactly C v i p n .0 h .1 }
+  by-number (rename e p n) = λ h. record { dir = inodeAt v p; node = nodeOf v (e .0); gained = renamed e p n; lacking = rename-exactly C v e p n .0 h .1 }
+  by-number (exchange a b) = λ h. swapped a b (exchange-exactly C v a b .0 h .1)
+  by-number (remove e) = other (remove e) (search tables depth 25)
+  by-number (find p n) = other (find p n) (search tables depth 25)
+  by-number (show e b) = other (show e b) (search tables depth 25)
+  by-number (seal i n b) = other (seal i n b) (search tables depth 25)
+  by-number (unseal i n b) = other (unseal i n b) (search tables depth 25)
+
+-- ---- on a sound volume
+
+used : (kind : ℕ) → eqb kind 0 ≡ false → 0 < kind
+used kind f = omega (arith, eqb-false kind 0 f)
 
 module _ (C : Cipher) (v : Volume) (s : Sound v) where
-  rename-within : (e : EntryNumber) (p : InodeNumber) (n : Bytes) → RenameReady v e p n → entryAt v e .parent ≡ p
-      → GivesRefusal C v (rename e p n) → ⊥
-  rename-within e p n h q r =
-      let w = rename-exactly C v e p n h .0 r in
+  -- a move within a directory is never refused so: the directory gains nothing
+  rename-within : (e : EntryNumber) (p : InodeNumber) (n : Bytes) → entryAt v e .parent ≡ p → GivesRefusal C v (rename e p n) → ⊥
+  rename-within e p n q r =
+      let (h, w) = rename-exactly C v e p n .0 r in
       w .lacks (subst (λ (d : InodeNumber). MayHold (inodeAt v d) (nodeOf v (e .0))) q (s .policies (e .0) (h .entry)) (w .is-encrypted) (w .not-special))
 
-  exchange-within : (a b : EntryNumber) → ExchangeReady v a b → entryAt v a .parent ≡ entryAt v b .parent
-      → GivesRefusal C v (exchange a b) → ⊥
-  exchange-within a b h q r = neither (holds a b (h .other) (sym q)) (holds b a (h .one) q) (exchange-exactly C v a b h .0 r)
+  exchange-within : (a b : EntryNumber) → entryAt v a .parent ≡ entryAt v b .parent → GivesRefusal C v (exchange a b) → ⊥
+  exchange-within a b q r = let (h, w) = exchange-exactly C v a b .0 r in neither (holds a b (h .other) (sym q)) (holds b a (h .one) q) w
     where
+      neither : {X Y : Type 0} → (X → ⊥) → (Y → ⊥) → X ⊎ Y → ⊥
+      neither f g (inl x) = f x
+      neither f g (inr y) = g y
+
       holds : (c d : EntryNumber) → Used v (d .0) → entryAt v d .parent ≡ entryAt v c .parent → WouldLack (dirOf v (c .0)) (nodeOf v (d .0)) → ⊥
       holds c d u p w =
           w .lacks (subst (λ (m : InodeNumber). MayHold (inodeAt v m) (nodeOf v (d .0))) p (s .policies (d .0) u) (w .is-encrypted) (w .not-special))
+
+  -- the directory of a refused move is one, and its inode is there
+  there : {r : Request} {dir node : Inode} → WouldGain v r dir node → GivesRefusal C v r → (dir .kind ≡ 1) × (0 < node .kind)
+  there (linked i p n) h = let r = link-exactly C v i p n .0 h .0 in (is-directory v p (r .parent), used _ (r .inode))
+  there (renamed e p n) h = let r = rename-exactly C v e p n .0 h .0 in (is-directory v p (r .parent), used _ (s .inodes-in-use (e .0) (r .entry)))
+  there (exchanged-one a b) h = let r = exchange-exactly C v a b .0 h .0 in (s .parents (a .0) (r .one), used _ (s .inodes-in-use (b .0) (r .other)))
+  there (exchanged-other a b) h = let r = exchange-exactly C v a b .0 h .0 in (s .parents (b .0) (r .other), used _ (s .inodes-in-use (a .0) (r .one)))
+
+  by-number-there : (r : Request) → GivesRefusal C v r → (w : WouldMisplace v r) × (w .dir .kind ≡ 1) × (0 < w .node .kind)
+  by-number-there r h = let w = by-number C v r h in let k = there (w .gained) h in (w, k .0, k .1)
+
+-- ---- in a log: a refused request leaves the volume as it found it, and would be refused again
+
+module _ (C : Cipher) (law : Lawful C) where
+  refused-again : (rs : List Request) (m : Moment) → List·Memᴰ m (run C rs) → m .answer ≡ refused 18 → GivesRefusal C (m .volume) (m .request)
+  unfolding momentOf
+  refused-again rs m h a =
+      let (w, e) = was-step C rs fresh m h in
+      let g : GivesRefusal C w (m .request) = sym (ap (λ (x : Moment). x .answer) e) ∙ a in
+      let o = leaves C .refused-all w (m .request) 18 g in
+      subst (λ (x : Volume). GivesRefusal C x (m .request)) (sym (ap (λ (x : Moment). x .volume) e ∙ ap (λ (x : Outcome). x .volume) o)) g
+
+  by-log : (rs : List Request) → AllTyped rs → (m : Moment) → List·Memᴰ m (run C rs) → m .answer ≡ refused 18
+      → (w : WouldMisplace (m .volume) (m .request)) × (w .dir .kind ≡ 1) × (0 < w .node .kind)
+  by-log rs t m h a = by-number-there C (m .volume) (sound C law rs t m h) (m .request) (refused-again rs m h a)
 
 pub policy-clause : (C : Cipher) → Lawful C → PolicyClause C
 policy-clause C law = record {
   by-link = λ v. link-exactly C v;
   by-rename = λ v. rename-exactly C v;
   by-exchange = λ v. exchange-exactly C v;
+  by-number = λ v. by-number C v;
+  by-log = by-log C law;
   rename-within = λ v s. rename-within C v s;
   exchange-within = λ v s. exchange-within C v s;
-  link-ready = λ v. link-ready C v;
-  rename-ready = λ v. rename-ready C v;
-  exchange-ready = λ v. exchange-ready C v;
   at-no-time = at-no-time C law;
 }

@@ -6,7 +6,7 @@ use lib.Dec.{eqb, leb, ltb}
 use Rattle.lists.specs.Bytes.{Bytes}
 use Rattle.errno.specs.Refusals.{_⇒_, _>>_}
 use Rattle.errno.specs.declared.Errno.{Errno}
-use Rattle.errno.specs.declared.Errno.the-variants.{EPERM, ENOENT, EEXIST, ENOTDIR, EINVAL, ENOSPC, ERANGE, ENOTEMPTY, ENODATA, ENOTUNIQ, EUCLEAN, ENOKEY}
+use Rattle.errno.specs.declared.Errno.the-variants.{EPERM, ENOENT, EEXIST, EXDEV, ENOTDIR, EINVAL, ENOSPC, ERANGE, ENOTEMPTY, ENODATA, ENOTUNIQ, EUCLEAN, ENOKEY}
 use Rattle.errno.specs.declared.Checked.{Checked}
 use Rattle.errno.specs.declared.Checked.the-variants.{Fine}
 use Rattle.policy.specs.Policies.{samePolicy, policyCheck, readPolicy}
@@ -34,9 +34,10 @@ directoryCheck v p = do
 unfoldable pub isPolicyRefused : Inode → Inode → Bool
 isPolicyRefused dir node = dir .encrypted && (leb (node .kind) 3 && not (node .encrypted && samePolicy (node .context .policy) (dir .context .policy)))
 
--- its number: "EPERM 1 | linking a folder; first policy on the root; the policy refusal" (document 01)
+-- its number: "Later fscrypt editions answer the policy refusal with EXDEV (18) .. Follow them for link, rename and exchange. EPERM stays for linking a folder and for
+-- the root." (document 02, Item 2)
 abbrev pub policyRefusal : Errno
-policyRefusal = EPERM
+policyRefusal = EXDEV
 
 -- document 01: "Kinds: 1 folder, 2 regular file, 3 symlink, 4 special"
 unfoldable pub isBadKind : ℕ → Bool

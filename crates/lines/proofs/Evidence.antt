@@ -1,0 +1,164 @@
+-- `error 18 EXDEV` is said exactly to a line that makes a request refused with 18: of all answers it alone begins as an error and ends as EXDEV does, and a line is answered
+-- as its request is. Assumes nothing.
+use Prim.Native.Nat.{ℕ}
+use Prim.Native.String.{String}
+use native.Mathlib.Omega.{arith}
+use mathlib.Core.Path.{_≡_, refl, sym, _∙_, ap}
+use mathlib.Core.Logic.{_≢_, _↔_}
+use mathlib.Core.Bool.{Bool, true, false, cond, not, _||_}
+use mathlib.Core.Option.{Option, some, none}
+use mathlib.Core.List.{[], _∷_, _++_, append-cancel-right}
+use lib.ListN.{getD}
+use lib.Dec.{eqb}
+use Rattle.lists.specs.Bytes.{Bytes}
+use Rattle.lists.proofs.Slots.{by-cond}
+use Rattle.lists.proofs.Tests.{eqb-true}
+use Rattle.errno.specs.declared.Errno.the-variants.{EXDEV}
+use Rattle.fscrypt.specs.Cipher.{fscrypt}
+use Rattle.fscrypt.proofs.Lawfulness.{fscrypt-lawful}
+use Rattle.volume.specs.Request.{Request, lends, Answer, refused, done, created, at, policyIs, shown, Outcome}
+use Rattle.volume.specs.PolicyClause.{GivesRefusal}
+use Rattle.volume.specs.declared.Volume.{Volume}
+use Rattle.volume.proofs.Leaves.{leaves}
+use Rattle.volume.proofs.PolicyClause.{policy-clause}
+use Rattle.script.specs.Text.{text}
+use Rattle.script.specs.Numbers.{decimal}
+use Rattle.script.specs.Words.{firstWord, afterWord}
+use Rattle.script.specs.Commands.{verbOf, shapeOf, readWords}
+use Rattle.script.specs.declared.Verb.{Verb}
+use Rattle.script.specs.declared.Args.{Args}
+use Rattle.lines.specs.Answers.{errnoName, errorText, shownText, answerText, Said, saying, told, malformed}
+use Rattle.lines.specs.Lines.{requestOf, answersBlock, toldTo, respond, withoutReturn, isSkipped, isOverlong, commanded, ended, answered}
+use Rattle.lines.specs.Evidence.{requestIn, Evidence}
+use Rattle.lines.proofs.Texts.{error-is}
+
+-- ---- the number is read off the text
+
+-- the last byte of a text, or the one before it where there is none
+abbrev lastAfter : ℕ → Bytes → ℕ
+lastAfter d [] = d
+lastAfter d (x ∷ xs) = lastAfter x xs
+
+last-append : (d : ℕ) (xs ys : Bytes) → lastAfter d (xs ++ ys) ≡ lastAfter (lastAfter d xs) ys
+last-append d [] ys = refl
+last-append d (x ∷ xs) ys = last-append x xs ys
+
+-- of the refusals EXDEV alone ends in V
+name-read : (n : ℕ) → lastAfter 32 (text (errnoName n)) ≡ 86 → n ≡ 18
+unfolding errnoName
+name-read n =
+    by-cond P (eqb n 1) "EPERM" _ (λ e h. absurd (omega (arith, h))) (λ f0.
+    by-cond P (eqb n 2) "ENOENT" _ (λ e h. absurd (omega (arith, h))) (λ f1.
+    by-cond P (eqb n 17) "EEXIST" _ (λ e h. absurd (omega (arith, h))) (λ f2.
+    by-cond P (eqb n 18) "EXDEV" _ (λ e h. eqb-true e) (λ f3.
+    by-cond P (eqb n 20) "ENOTDIR" _ (λ e h. absurd (omega (arith, h))) (λ f4.
+    by-cond P (eqb n 22) "EINVAL" _ (λ e h. absurd (omega (arith, h))) (λ f5.
+    by-cond P (eqb n 28) "ENOSPC" _ (λ e h. absurd (omega (arith, h))) (λ f6.
+    by-cond P (eqb n 34) "ERANGE" _ (λ e h. absurd (omega (arith, h))) (λ f7.
+    by-cond P (eqb n 36) "ENAMETOOLONG" _ (λ e h. absurd (omega (arith, h))) (λ f8.
+    by-cond P (eqb n 39) "ENOTEMPTY" _ (λ e h. absurd (omega (arith, h))) (λ f9.
+    by-cond P (eqb n 61) "ENODATA" _ (λ e h. absurd (omega (arith, h))) (λ f10.
+    by-cond P (eqb n 76) "ENOTUNIQ" _ (λ e h. absurd (omega (arith, h))) (λ f11.
+    by-cond P (eqb n 117) "EUCLEAN" _ (λ e h. absurd (omega (arith, h))) (λ f12.
+    by-cond P (eqb n 126) "ENOKEY" _ (λ e h. absurd (omega (arith, h))) (λ f13.
+    λ h. absurd (omega (arith, h))))))))))))))))
+  where
+    P : String → Type 0
+    P s = lastAfter 32 (text s) ≡ 86 → n ≡ 18
+
+number-read : (n : ℕ) → errorText n ≡ text "error 18 EXDEV" → n ≡ 18
+unfolding errorText
+number-read n h =
+    let tail = text " " ++ text (errnoName n) in
+    name-read n (sym (last-append 0 (text "error ") (decimal n ++ tail) ∙ last-append 32 (decimal n) tail) ∙ ap (lastAfter 0) h)
+
+-- a text that does not begin with e, as `ok` and `malformed` do not
+other-start : (b : ℕ) (t : Bytes) → b ≢ 101 → b ∷ t ≡ text "error 18 EXDEV" → ⊥
+other-start b t ne h = ne (ap (λ (l : Bytes). getD l 0 0) h)
+
+no-error : (t : Bytes) → 111 ∷ t ≡ text "error 18 EXDEV" → ⊥
+no-error t = other-start 111 t (omega arith)
+
+by-text : (block : Bool) (a : Answer) (b : Bytes) → (answerText block a b ≡ text "error 18 EXDEV") ↔ (a ≡ refused 18)
+unfolding answerText shownText
+by-text block a b = (read block a, λ h. ap (λ (x : Answer). answerText block x b) h ∙ written)
+  where
+    written : answerText block (refused 18) b ≡ text "error 18 EXDEV"
+    written = sym (error-is EXDEV)
+
+    read : (t : Bool) (x : Answer) → answerText t x b ≡ text "error 18 EXDEV" → x ≡ refused 18
+    read t (refused n) h = ap refused (number-read n h)
+    read true done h = absurd (no-error _ h)
+    read false done h = absurd (no-error _ h)
+    read t (created i e) h = absurd (no-error _ h)
+    read t (at e) h = absurd (no-error _ h)
+    read t (policyIs p) h = absurd (no-error _ h)
+    read t (shown s) h = absurd (no-error _ h)
+
+-- ---- a line is answered as its request is
+
+-- what is answered, and the request: nothing and none where the line is skipped, else what is said to the request, and a newline
+data Answers (v : Volume) (x : Said) (o : Option Request) : Type 0 where
+  skipped : x ≡ saying [] v → o ≡ none → Answers v x o
+  asked : x ≡ ended (toldTo v o) → Answers v x o
+
+answers : (v : Volume) (line : Bytes) → Answers v (answered v line) (requestIn line)
+unfolding answered commanded respond requestIn
+answers v line = go (isSkipped l) (isOverlong l) (a .good)
+  where
+    l : Bytes
+    l = withoutReturn line
+
+    verb : Verb
+    verb = verbOf (firstWord l)
+
+    a : Args
+    a = (readWords (shapeOf verb) (afterWord l)) .args
+
+    o : Option Request
+    o = requestOf verb a ((readWords (shapeOf verb) (afterWord l)) .bytes)
+
+    go : (skip long good : Bool)
+        → Answers v (cond skip (saying [] v) (ended (cond long (malformed v) (cond good (toldTo v o) (malformed v))))) (cond (skip || (long || not good)) none o)
+    go true long good = skipped refl refl
+    go false true good = asked refl
+    go false false false = asked refl
+    go false false true = asked refl
+
+-- ---- what the text proves
+
+-- the line says it, and the request is refused so
+abbrev Says18 : Said → Type 0
+Says18 x = x .said ≡ text "error 18 EXDEV\n"
+
+abbrev Refused18 : Volume → Option Request → Type 0
+Refused18 v o = (r : Request) × (o ≡ some r) × GivesRefusal fscrypt v r
+
+request-read : (v : Volume) (o : Option Request) → (toldTo v o) .said ≡ text "error 18 EXDEV" → Refused18 v o
+request-read v none h = absurd (other-start 109 _ (omega arith) h)
+request-read v (some r) h = (r, refl, by-text _ _ _ .0 h)
+
+module _ (v : Volume) {x : Said} {o : Option Request} where
+  line-read : Answers v x o → Says18 x → Refused18 v o
+  line-read (skipped e n) h = let z = ap (λ (l : Bytes). getD l 0 0) (sym (ap (λ (y : Said). y .said) e) ∙ h) in absurd (omega (arith, z))
+  line-read (asked e) h = request-read v _ (append-cancel-right _ (text "error 18 EXDEV") (text "\n") (sym (ap (λ (y : Said). y .said) e) ∙ h))
+
+  -- a request that is refused so is answered so, and leaves the volume
+  line-said : (r : Request) → GivesRefusal fscrypt v r → Answers v x o → o ≡ some r → x ≡ saying (text "error 18 EXDEV\n") v
+  line-said r h (skipped e n) q = let z : _≡_ {A = ℕ} 0 1 = cc in absurd (omega arith)
+  line-said r h (asked e) q =
+      let block = answersBlock (lends r) in
+      e
+      ∙ ap (λ (y : Option Request). ended (toldTo v y)) q
+      ∙ ap (λ (y : Outcome). ended (told block y)) (leaves fscrypt .refused-all v r 18 h)
+      ∙ ap (λ (t : Bytes). saying (t ++ text "\n") v) (by-text block (refused 18) _ .1 refl)
+
+pub evidence : Evidence
+evidence = record {
+  by-text = by-text;
+  by-line = λ v line. (line-read v (answers v line), λ d. ap (λ (y : Said). y .said) (line-said v (d .0) (d .2) (answers v line) (d .1)));
+  misplaced = λ v line h.
+      let d = line-read v (answers v line) h in
+      let w = policy-clause fscrypt fscrypt-lawful .by-number v (d .0) (d .2) in
+      (d .0, d .1, w, ap (λ (y : Said). y .volume) (line-said v (d .0) (d .2) (answers v line) (d .1)));
+}
