@@ -15,8 +15,8 @@
 Compare and tworuns need the program, at target/bin/bulwarkle below the
 repository or as --program says, and save a script that shows a difference in
 target/ or as --save says. All commands exit with 1 where something differs,
-disagrees or is missing, and with 2 on a wrong usage or where a file or the
-program can't be had.
+disagrees, is missing or can't be judged, and with 2 on a wrong usage or where a
+file or the program can't be had.
 
 It needs Debian's python3, 3.11, and python3-cryptography.
 """

@@ -121,12 +121,18 @@ def _case_rows(tally):
         yield [text, ", ".join(name for name, _ in tally.tags.get(tag, []))]
 
 
+def _kernel_outcome(row):
+    """The kernel's number where it is required, or why it is not."""
+    if cases_kernel.left_out(row):
+        return "left out"
+    return "other" if cases_kernel.differs(row) else row[2]
+
+
 def _kernel_rows():
     for group, cases in cases_kernel.ANSWERS.items():
-        rows = [(group, *answer) for answer in cases.items()]
-        counts = Counter("left out" if cases_kernel.left_out(row) else row[2] for row in rows)
-        yield [group, cases_kernel.SCRIPTS[group],
-               *(counts[key] for key in ("EXDEV", "0", "left out"))]
+        counts = Counter(_kernel_outcome((group, *answer)) for answer in cases.items())
+        yield [group, cases_kernel.SCRIPTS[group], len(cases),
+               *(counts[key] for key in ("EXDEV", "ENOKEY", "0", "other", "left out"))]
 
 
 def _left_out_rows():
@@ -140,12 +146,19 @@ def _left_out_rows():
 
 
 def _kernel_section():
+    rows = cases_kernel.rows()
+    outcomes = Counter(map(_kernel_outcome, rows))
+    other, left_out = outcomes.pop("other"), outcomes.pop("left out")
     return [
         "## A kernel's answers", "",
-        f"What Linux 6.1 answered to link and rename: {len(cases_kernel.rows())} cases, copied in "
-        "`tools/replay_scripts/cases_kernel.py`. One that is replayed must get the kernel's "
-        "answer, EXDEV or done.", "",
-        *_table(["group", "script", "EXDEV", "done", "left out"], _kernel_rows()),
+        f"What Linux 6.1 answered to link and rename: {len(rows)} cases, copied in "
+        f"`tools/replay_scripts/cases_kernel.py`. {outcomes.total()} are replayed and must get "
+        f"the kernel's number: EXDEV, ENOKEY or done. {other} are replayed and must get EEXIST: "
+        "the kernel replaced what had the name, and document 01's rename does not replace; it "
+        "looks at the name after the policy, so the policy let the move pass. "
+        f"{left_out} are left out.", "",
+        *_table(["group", "script", "cases", "EXDEV", "ENOKEY", "done",
+                 "EEXIST, as rename does not replace", "left out"], _kernel_rows()),
         "Cases left out:", "",
         *_table(["group", "cases", "because"], _left_out_rows()),
     ]

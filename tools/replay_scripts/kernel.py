@@ -2,11 +2,12 @@
 
 Only the pair 1/4 (AES-256-XTS with AES-256-CTS) is in document 01. The file's
 other pairs are policies it refuses. Of the kernel's answers to whole requests
-those to link and rename are compared with the copies in cases_kernel, which the
-stored scripts replay.
+those to link and rename are compared: each that cases_kernel does not leave out is
+asked of a fresh volume, as the stored scripts ask cases_kernel's copies.
 """
 
 import json
+from collections import Counter
 
 from bulwarkle_model.ciphers import derive_key, encrypt_cts
 from bulwarkle_model.names import NAME_MAX, padded_length
@@ -14,6 +15,7 @@ from bulwarkle_model.policy import read_context, read_policy
 from bulwarkle_model.volume import DIRECTORY, REGULAR, Volume
 
 from . import cases_kernel
+from .written import CaseError
 
 PAIR = "1/4"
 
@@ -73,30 +75,52 @@ def _cases(path):
         values = json.loads(path.read_text(encoding="ascii"))
         names, blocks = ([case for case in values[kind] if case["pair"] == PAIR]
                          for kind in ("names", "blocks"))
-        rows = [tuple(str(row[key]) for key in ("group", "case", "errno"))
+        rows = [(str(row["group"]), str(row.get("case")), str(row.get("errno")))
                 for row in values["semantics"]]
-        moves = [row for row in rows if row[0] == "link" or row[0].startswith("rename")]
+        moves = [row for row in rows if cases_kernel.is_move(*row[:2])]
         return names, blocks, values["policy_bytes"], moves
     except (KeyError, TypeError, ValueError) as wrong:
         raise NotValues(f"{path} is not the kernel's values: "
                         f"{type(wrong).__name__}: {wrong}") from None
 
 
-def _check_moves(moves):
-    """Compare a file's links and renames with the copies; returns the number that differ."""
-    copies = cases_kernel.rows()
-    wrong = sorted({*moves} ^ {*copies})
-    differing = len({row[:2] for row in wrong})
-    left_out = sum(cases_kernel.left_out(row) is not None for row in copies)
-    print(f"links and renames: {len(moves)} compared, {differing} differ "
-          f"({len(copies) - left_out} replayed, {left_out} left out)")
-    for row in wrong:
-        print(f"  {'the copy' if row in copies else 'the file'}: {row}")
-    return differing
+def _judge(row, copies):
+    """What became of a link or rename on a fresh volume, and what is wrong or None."""
+    group, case, errno = row
+    if copies.get((group, case), errno) != errno:
+        return "differ", f"the copy has {copies[group, case]}"
+    if cases_kernel.left_out(row):
+        return "left out", None
+    try:
+        cases_kernel.Replay().row(*row)
+    except cases_kernel.Unread as wrong:
+        return "unread", wrong
+    except CaseError as wrong:
+        return "differ", wrong
+    return "other" if cases_kernel.differs(row) else "same", None
+
+
+def _check_moves(rows):
+    """Ask a file's links and renames; returns the number that differ or cannot be read."""
+    copies = {(group, case): errno for group, case, errno in cases_kernel.rows()}
+    judged = [(row, *_judge(row, copies)) for row in rows]
+    counts = Counter(outcome for _, outcome, _ in judged)
+    compared = counts["same"] + counts["other"] + counts["differ"]
+    print(f"links and renames: {compared} compared, {counts['differ']} differ; "
+          f"{counts['left out']} left out, {counts['unread']} cannot be read")
+    print(f"  {counts['same']} get the kernel's number, "
+          f"{counts['other']} EEXIST since rename does not replace")
+    cases = {row[:2] for row in rows}
+    print(f"  {len(cases - copies.keys())} cases of the file are not among the copies, "
+          f"{len(copies.keys() - cases)} copies are not in the file")
+    for row, outcome, wrong in judged:
+        if wrong:
+            print(f"  {outcome}: {row}: {wrong}")
+    return counts["differ"] + counts["unread"]
 
 
 def check(path):
-    """Compare with all cases of a file; returns the number that differ.
+    """Compare with all cases of a file; returns the number that differ or cannot be read.
 
     Of names whose rounding passes 255 only the cipher is compared, see above.
     """

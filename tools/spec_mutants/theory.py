@@ -12,7 +12,7 @@ from . import tree
 from .checking import errors, prove
 
 DIRECTORY = tree.ROOT / "target" / "theory"
-FUNCTION = re.compile(r'(pub )?(extern "C" )?fn |impl ')
+FUNCTION = re.compile(r'(pub(\(crate\))? )?(extern "C" )?fn |impl ')
 USE_OF_FUNCTION = re.compile(r"(pub )?use (.*::)?[a-z_0-9]+;$")
 
 

@@ -1,18 +1,15 @@
 -- `error 18 EXDEV` is said exactly to a line that makes a request refused with 18: of all answers it alone begins as an error and ends as EXDEV does, and a line is answered
 -- as its request is. Assumes nothing.
 use Prim.Native.Nat.{ℕ}
-use Prim.Native.String.{String}
 use native.Mathlib.Omega.{arith}
 use mathlib.Core.Path.{_≡_, refl, sym, _∙_, ap}
-use mathlib.Core.Logic.{_≢_, _↔_}
-use mathlib.Core.Bool.{Bool, true, false, cond, not, _||_}
+use mathlib.Core.Logic.{_≢_, _⊎_, inl, inr, _↔_}
+use mathlib.Core.Bool.{Bool, true, false, cond, not, _||_, false≢true}
 use mathlib.Core.Option.{Option, some, none}
 use mathlib.Core.List.{[], _∷_, _++_, append-cancel-right}
 use lib.ListN.{getD}
-use lib.Dec.{eqb}
 use Rattle.lists.specs.Bytes.{Bytes}
-use Rattle.lists.proofs.Slots.{by-cond}
-use Rattle.lists.proofs.Tests.{eqb-true}
+use Rattle.lists.proofs.Slots.{by-test}
 use Rattle.errno.specs.declared.Errno.the-variants.{EXDEV}
 use Rattle.fscrypt.specs.Cipher.{fscrypt}
 use Rattle.fscrypt.proofs.Lawfulness.{fscrypt-lawful}
@@ -31,46 +28,15 @@ use Rattle.lines.specs.Answers.{errnoName, errorText, shownText, answerT
 use Rattle.lines.specs.Lines.{requestOf, answersBlock, toldTo, respond, withoutReturn, isSkipped, isOverlong, commanded, ended, answered}
 use Rattle.lines.specs.Evidence.{requestIn, Evidence}
 use Rattle.lines.proofs.Texts.{error-is}
+use Rattle.lines.proofs.OneLine.{Printing, prints, no-newline, lastAfter, last-append, named, answer}
 
 -- ---- the number is read off the text
-
--- the last byte of a text, or the one before it where there is none
-abbrev lastAfter : ℕ → Bytes → ℕ
-lastAfter d [] = d
-lastAfter d (x ∷ xs) = lastAfter x xs
-
-last-append : (d : ℕ) (xs ys : Bytes) → lastAfter d (xs ++ ys) ≡ lastAfter (lastAfter d xs) ys
-last-append d [] ys = refl
-last-append d (x ∷ xs) ys = last-append x xs ys
-
--- of the refusals EXDEV alone ends in V
-name-read : (n : ℕ) → lastAfter 32 (text (errnoName n)) ≡ 86 → n ≡ 18
-unfolding errnoName
-name-read n =
-    by-cond P (eqb n 1) "EPERM" _ (λ e h. absurd (omega (arith, h))) (λ f0.
-    by-cond P (eqb n 2) "ENOENT" _ (λ e h. absurd (omega (arith, h))) (λ f1.
-    by-cond P (eqb n 17) "EEXIST" _ (λ e h. absurd (omega (arith, h))) (λ f2.
-    by-cond P (eqb n 18) "EXDEV" _ (λ e h. eqb-true e) (λ f3.
-    by-cond P (eqb n 20) "ENOTDIR" _ (λ e h. absurd (omega (arith, h))) (λ f4.
-    by-cond P (eqb n 22) "EINVAL" _ (λ e h. absurd (omega (arith, h))) (λ f5.
-    by-cond P (eqb n 28) "ENOSPC" _ (λ e h. absurd (omega (arith, h))) (λ f6.
-    by-cond P (eqb n 34) "ERANGE" _ (λ e h. absurd (omega (arith, h))) (λ f7.
-    by-cond P (eqb n 36) "ENAMETOOLONG" _ (λ e h. absurd (omega (arith, h))) (λ f8.
-    by-cond P (eqb n 39) "ENOTEMPTY" _ (λ e h. absurd (omega (arith, h))) (λ f9.
-    by-cond P (eqb n 61) "ENODATA" _ (λ e h. absurd (omega (arith, h))) (λ f10.
-    by-cond P (eqb n 76) "ENOTUNIQ" _ (λ e h. absurd (omega (arith, h))) (λ f11.
-    by-cond P (eqb n 117) "EUCLEAN" _ (λ e h. absurd (omega (arith, h))) (λ f12.
-    by-cond P (eqb n 126) "ENOKEY" _ (λ e h. absurd (omega (arith, h))) (λ f13.
-    λ h. absurd (omega (arith, h))))))))))))))))
-  where
-    P : String → Type 0
-    P s = lastAfter 32 (text s) ≡ 86 → n ≡ 18
 
 number-read : (n : ℕ) → errorText n ≡ text "error 18 EXDEV" → n ≡ 18
 unfolding errorText
 number-read n h =
     let tail = text " " ++ text (errnoName n) in
-    name-read n (sym (last-append 0 (text "error ") (decimal n ++ tail) ∙ last-append 32 (decimal n) tail) ∙ ap (lastAfter 0) h)
+    named n .1 (sym (last-append 0 (text "error ") (decimal n ++ tail) ∙ last-append 32 (decimal n) tail) ∙ ap (lastAfter 0) h)
 
 -- a text that does not begin with e, as `ok` and `malformed` do not
 other-start : (b : ℕ) (t : Bytes) → b ≢ 101 → b ∷ t ≡ text "error 18 EXDEV" → ⊥
@@ -102,9 +68,9 @@ data Answers (v : Volume) (x : Said) (o : Option Request) : Type 0 where
   skipped : x ≡ saying [] v → o ≡ none → Answers v x o
   asked : x ≡ ended (toldTo v o) → Answers v x o
 
-answers : (v : Volume) (line : Bytes) → Answers v (answered v line) (requestIn line)
+by-request : (v : Volume) (line : Bytes) → answered v line ≡ cond (isSkipped (withoutReturn line)) (saying [] v) (ended (toldTo v (requestIn line)))
 unfolding answered commanded respond requestIn
-answers v line = go (isSkipped l) (isOverlong l) (a .good)
+by-request v line = go (isSkipped l) (isOverlong l) (a .good)
   where
     l : Bytes
     l = withoutReturn line
@@ -119,11 +85,36 @@ answers v line = go (isSkipped l) (isOverlong l) (a .good)
     o = requestOf verb a ((readWords (shapeOf verb) (afterWord l)) .bytes)
 
     go : (skip long good : Bool)
-        → Answers v (cond skip (saying [] v) (ended (cond long (malformed v) (cond good (toldTo v o) (malformed v))))) (cond (skip || (long || not good)) none o)
-    go true long good = skipped refl refl
-    go false true good = asked refl
-    go false false false = asked refl
-    go false false true = asked refl
+        → cond skip (saying [] v) (ended (cond long (malformed v) (cond good (toldTo v o) (malformed v))))
+        ≡ cond skip (saying [] v) (ended (toldTo v (cond (skip || (long || not good)) none o)))
+    go true long good = refl
+    go false true good = refl
+    go false false false = refl
+    go false false true = refl
+
+skips : (t x : Bool) (o : Option Request) → t ≡ true → cond (t || x) none o ≡ none
+skips true x o h = refl
+skips false x o h = absurd (false≢true h)
+
+skipped-none : (line : Bytes) → isSkipped (withoutReturn line) ≡ true → requestIn line ≡ none
+unfolding requestIn
+skipped-none line h = skips (isSkipped (withoutReturn line)) _ _ h
+
+answers : (v : Volume) (line : Bytes) → Answers v (answered v line) (requestIn line)
+answers v line =
+    by-test (isSkipped (withoutReturn line))
+    (λ h. skipped (by-request v line ∙ ap (λ (t : Bool). cond t (saying [] v) (ended (toldTo v (requestIn line)))) h) (skipped-none line h))
+    (λ h. asked (by-request v line ∙ ap (λ (t : Bool). cond t (saying [] v) (ended (toldTo v (requestIn line)))) h))
+
+-- ---- an answer is one line
+
+told-prints : (v : Volume) (o : Option Request) → Printing ((toldTo v o) .said)
+told-prints v none = prints refl
+told-prints v (some r) = answer (answersBlock (lends r)) _ _
+
+one-line : {v : Volume} {x : Said} {o : Option Request} → Answers v x o → (x .said ≡ []) ⊎ ((t : Bytes) × ((i : ℕ) → getD t i 0 ≢ 10) × (x .said ≡ t ++ text "\n"))
+one-line (skipped e n) = inl (ap (λ (y : Said). y .said) e)
+one-line {v} {x} {o} (asked e) = inr ((toldTo v o) .said, no-newline _ (told-prints v o), ap (λ (y : Said). y .said) e)
 
 -- ---- what the text proves
 
@@ -155,10 +146,12 @@ module _ (v : Volume) {x : Said} {o : Option Request} where
 
 pub evidence : Evidence
 evidence = record {
+  by-request = by-request;
+  one-line = λ v line. one-line (answers v line);
   by-text = by-text;
   by-line = λ v line. (line-read v (answers v line), λ d. ap (λ (y : Said). y .said) (line-said v (d .0) (d .2) (answers v line) (d .1)));
   misplaced = λ v line h.
       let d = line-read v (answers v line) h in
-      let w = policy-clause fscrypt fscrypt-lawful .by-number v (d .0) (d .2) in
+      let w = policy-clause fscrypt fscrypt-lawful .by-number v (d .0) .0 (d .2) .1 in
       (d .0, d .1, w, ap (λ (y : Said). y .volume) (line-said v (d .0) (d .2) (answers v line) (d .1)));
 }

@@ -3,4 +3,5 @@ pub mod Texts
 pub mod Saying
 pub mod Answering
 pub mod Room
+mod OneLine
 pub mod Evidence

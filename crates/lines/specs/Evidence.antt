@@ -1,9 +1,12 @@
--- The answer `error 18 EXDEV` is evidence by itself (document 02, Item 2): it is said exactly to a line that makes a request which is refused with 18, and so to a link,
--- rename or exchange by which an encrypted directory would have gained what lacks its policy (volume/specs/PolicyClause.antt). Assumes nothing.
+-- What a line is answered, by the request that it makes; and what the answer `error 18 EXDEV` proves: it is said exactly to a line that makes a request which is refused with
+-- 18, so to a link, rename or exchange by which an encrypted directory would have gained what lacks its policy (volume/specs/PolicyClause.antt). Assumes nothing.
+use Prim.Native.Nat.{ℕ}
 use mathlib.Core.Path.{_≡_}
-use mathlib.Core.Logic.{_↔_}
+use mathlib.Core.Logic.{_≢_, _⊎_, _↔_}
 use mathlib.Core.Bool.{Bool, cond, not, _||_}
 use mathlib.Core.Option.{Option, some, none}
+use mathlib.Core.List.{[], _++_}
+use lib.ListN.{getD}
 use Rattle.lists.specs.Bytes.{Bytes}
 use Rattle.fscrypt.specs.Cipher.{fscrypt}
 use Rattle.volume.specs.Request.{Request, Answer, refused}
@@ -12,8 +15,8 @@ use Rattle.volume.specs.declared.Volume.{Volume}
 use Rattle.script.specs.Text.{text}
 use Rattle.script.specs.Words.{firstWord, afterWord}
 use Rattle.script.specs.Commands.{verbOf, shapeOf, readWords}
-use Rattle.lines.specs.Answers.{answerText}
-use Rattle.lines.specs.Lines.{requestOf, withoutReturn, isSkipped, isOverlong, answered}
+use Rattle.lines.specs.Answers.{answerText, saying}
+use Rattle.lines.specs.Lines.{requestOf, toldTo, withoutReturn, isSkipped, isOverlong, ended, answered}
 
 -- the request that a line makes, if it makes one
 unfoldable pub requestIn : Bytes → Option Request
@@ -24,11 +27,15 @@ requestIn line =
     cond (isSkipped l || (isOverlong l || not (words .args .good))) none (requestOf verb (words .args) (words .bytes))
 
 pub record Evidence : Type 0 where
+  -- a line is answered as the request that it makes; one that makes none is skipped, or malformed
+  pub by-request : (v : Volume) (line : Bytes) → answered v line ≡ cond (isSkipped (withoutReturn line)) (saying [] v) (ended (toldTo v (requestIn line)))
+  -- an answer is one line of a log: its last byte is a newline, and no other
+  pub one-line : (v : Volume) (line : Bytes) → ((answered v line) .said ≡ []) ⊎ ((t : Bytes) × ((i : ℕ) → getD t i 0 ≢ 10) × ((answered v line) .said ≡ t ++ text "\n"))
   -- the number is read off the text: no other answer is written so
   pub by-text : (block : Bool) (a : Answer) (b : Bytes) → (answerText block a b ≡ text "error 18 EXDEV") ↔ (a ≡ refused 18)
   -- a line is answered so exactly where it makes a request that is refused with 18
   pub by-line : (v : Volume) (line : Bytes)
       → ((answered v line) .said ≡ text "error 18 EXDEV\n") ↔ ((r : Request) × (requestIn line ≡ some r) × GivesRefusal fscrypt v r)
-  -- that request would have put into an encrypted directory what lacks its policy, and the volume is as it was
+  -- by that request an encrypted directory would have gained what lacks its policy, and the volume is as it was
   pub misplaced : (v : Volume) (line : Bytes) → (answered v line) .said ≡ text "error 18 EXDEV\n"
       → (r : Request) × (requestIn line ≡ some r) × WouldMisplace v r × ((answered v line) .volume ≡ v)

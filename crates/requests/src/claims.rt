@@ -8,6 +8,7 @@ ghost use Rattle.volume.specs.Does.{Does};
 ghost use Rattle.volume.specs.DoneWhen.{DoneWhen};
 ghost use Rattle.volume.specs.UnderKeys.{UnderKeys};
 ghost use Rattle.volume.specs.PolicyClause.{PolicyClause};
+ghost use Rattle.volume.specs.NotPermitted.{PermissionClause};
 ghost use Rattle.volume.specs.SealedOpens.{SealedOpens};
 ghost use Rattle.volume.specs.Request.{AllTyped, eachRequest};
 ghost use Rattle.volume.specs.TwoRuns.{TwoRuns};
@@ -35,9 +36,15 @@ pub fn tests_mean_what_they_say()
     ensures { λ _. ⌜ TestsMean fscrypt ⌝ }
 {}
 
-// Link, rename and exchange give the policy refusal exactly when an encrypted directory would gain what lacks its policy; so at no time does one stand there.
+// Link, rename and exchange answer 18, the policy refusal, exactly when their earlier checks have passed and an encrypted directory would gain what lacks its policy, and no
+// other request does, so that the number is evidence by itself; and at no time does what lacks its policy stand there.
 pub fn policies_hold()
     ensures { λ _. ⌜ PolicyClause fscrypt ⌝ }
+{}
+
+// EPERM is answered exactly to a link of a directory and to a first policy on the root, where the earlier checks have passed.
+pub fn eperm_is_for_linked_directories_and_the_root()
+    ensures { λ _. ⌜ PermissionClause fscrypt ⌝ }
 {}
 
 // What was sealed opens, and a name that was given is the name that is shown: on every volume that is sound and whose bytes are bytes, as those are that

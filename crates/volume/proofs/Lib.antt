@@ -29,6 +29,7 @@ mod Below
 pub mod Meanings
 mod MeaningsExample
 pub mod PolicyClause
+pub mod NotPermitted
 mod Bytewise
 mod ContextsStay
 mod StoredNames

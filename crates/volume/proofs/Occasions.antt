@@ -1,6 +1,6 @@
 -- Each refusal on its occasion, computed from the definitions: most requests here fail two checks that stand next to each other in document 01's order, and
 -- answer the number of the earlier. That a request is refused just when it should be is said in general, by `volume/specs/DoneWhen.antt`. The runs rule out what no
--- general statement does: the wrong one of two refusals first, and a refusal with another's number. Assumes nothing.
+-- general statement does, but for EXDEV and EPERM: the wrong one of two refusals first, and a refusal with another's number. Assumes nothing.
 use Prim.Native.Nat.{ℕ, zero, suc, _+_, _-_}
 use mathlib.Core.Path.{_≡_, refl}
 use mathlib.Core.List.{List, [], _∷_, _++_, map}
@@ -174,6 +174,9 @@ occasions =
     ∷ link (inode 0) (inode 6) (122 ∷ []) answers refused 1
     ∷ link (inode 0) (inode 4) (122 ∷ []) answers refused 1
     ∷ link (inode 0) (inode 0) (112 ∷ []) answers refused 1
+    -- and so is an encrypted one, into a plain directory and into one of its own policy
+    ∷ link (inode 1) (inode 0) (122 ∷ []) answers refused 1
+    ∷ link (inode 8) (inode 1) (97 ∷ []) answers refused 1
     -- a plain symlink is kept out of the encrypted directory, and a special file is not: there its name is what is taken
     ∷ link (inode 16) (inode 1) (97 ∷ []) answers refused 18
     ∷ rename (entry 15) (inode 1) (97 ∷ []) answers refused 18

@@ -13,48 +13,26 @@ use Rattle.lists.specs.Bytes.{Bytes}
 use Rattle.lists.proofs.Slots.{by-test}
 use Rattle.errno.specs.declared.Errno.the-variants.{EXDEV}
 use Rattle.errno.specs.declared.Checked.the-variants.{Fine, Refused}
-use Rattle.policy.specs.Policies.{policyCheck}
 use Rattle.fscrypt.specs.Cipher.{Cipher, Lawful}
 use Rattle.fscrypt.specs.Names.{nameCheck}
 use Rattle.volume.specs.Volume.{fresh}
-use Rattle.volume.specs.Request.{Request, addKey, removeKey, setPolicy, getPolicy, create, link, rename, exchange, remove, find, show, seal, unseal, refused, Outcome, AllTyped}
+use Rattle.volume.specs.Request.{Request, setPolicy, link, rename, exchange, refused, Outcome, AllTyped}
 use Rattle.volume.specs.Lookup.{lacksKey, inodeAt, isFree, isDirectory, entryAt, isVacant, Used, dirOf, nodeOf}
-use Rattle.volume.specs.Checks.{directoryCheck, nonceCheck, isPolicyRefused, addKeyCheck, removeKeyCheck, setPolicyCheck, getPolicyCheck, createCheck, linkCheck, renameCheck, exchangeCheck, removeCheck, findCheck, showCheck, blockCheck}
+use Rattle.volume.specs.Checks.{directoryCheck, isPolicyRefused, linkCheck, renameCheck, exchangeCheck}
 use Rattle.volume.specs.Step.{check}
 use Rattle.volume.specs.Run.{Moment, momentOf, run}
 use Rattle.volume.specs.Sound.{Sound, MayHold}
-use Rattle.volume.specs.PolicyClause.{WouldLack, LinkReady, RenameReady, ExchangeReady, WouldGain, linked, renamed, exchanged-one, exchanged-other, WouldMisplace, GivesRefusal, PolicyClause}
+use Rattle.volume.specs.PolicyClause.{WouldLack, LinkReady, RenameReady, ExchangeReady, Ready, for-link, for-rename, for-exchange, WouldGain, linked, renamed, exchanged-one, exchanged-other, WouldMisplace, GivesRefusal, PolicyClause}
 use Rattle.ids.specs.declared.InodeNumber.{InodeNumber}
 use Rattle.ids.specs.declared.EntryNumber.{EntryNumber}
 use Rattle.volume.specs.declared.Inode.{Inode}
 use Rattle.volume.specs.declared.Volume.{Volume}
 use Rattle.volume.proofs.Kept.{was-step}
-use Rattle.volume.proofs.Refusing.{Never, refused-by, nevers, past, past-line, at-line, at-last-line}
+use Rattle.volume.proofs.Refusing.{refused-by, past, past-line, at-line, at-last-line, tables, Gives, neither, set-policy-gives, link-gives, rename-gives, exchange-gives, gives}
 use Rattle.volume.proofs.PlainMeanings.{policy-refused}
 use Rattle.volume.proofs.Passed.{is-directory}
 use Rattle.volume.proofs.Leaves.{leaves}
 use Rattle.volume.proofs.Soundness.{sound, at-no-time}
-
--- ---- the other tables, and the parts that tables share, do not come to it
-
-module _ (v : Volume) where
-  name-never : (n : Bytes) → Never EXDEV (nameCheck n)
-  unfolding nameCheck
-  name-never n = search nevers depth 25
-
-  directory-never : (p : InodeNumber) → Never EXDEV (directoryCheck v p)
-  unfolding directoryCheck
-  directory-never p = search nevers depth 25
-
-  nonce-never : (x : Bytes) → Never EXDEV (nonceCheck v x)
-  unfolding nonceCheck
-  nonce-never x = search nevers depth 25
-
-  policy-never : (b : Bytes) → Never EXDEV (policyCheck b)
-  unfolding policyCheck
-  policy-never b = search nevers depth 25
-
-ruleset tables = (nevers, name-never, directory-never, nonce-never, policy-never)
 
 -- ---- the three requests
 
@@ -90,9 +68,9 @@ module _ (C : Cipher) (v : Volume) where
 
       table : (linkCheck C v i p n ≡ Refused EXDEV) ↔ Table
       table =
-          past (name-never v n)
+          past (search tables)
           (past-line _ refl
-          (past (directory-never v p)
+          (past (search tables)
           (past-line _ refl
           (past-line _ refl
           (at-last-line (search tables))))))
@@ -116,9 +94,9 @@ module _ (C : Cipher) (v : Volume) where
 
       table : (renameCheck C v e p n ≡ Refused EXDEV) ↔ Table
       table =
-          past (name-never v n)
+          past (search tables)
           (past-line _ refl
-          (past (directory-never v p)
+          (past (search tables)
           (past-line _ refl
           (past-line _ refl
           (at-last-line (search tables))))))
@@ -156,32 +134,31 @@ module _ (C : Cipher) (v : Volume) where
           (past-line _ refl
           (at-line (at-last-line (search tables))))))
 
--- ---- the number alone
+-- ---- any request
 
 module _ (C : Cipher) (v : Volume) where
-  -- a request whose table does not come to the refusal
-  other : (r : Request) → Never EXDEV (check C v r) → GivesRefusal C v r → WouldMisplace v r
-  other r f h = absurd (f .no (refused-by C v r EXDEV .0 h))
+  abbrev Misplaces : Request → Type 0
+  Misplaces r = Ready v r × WouldMisplace v r
 
   swapped : (a b : EntryNumber) → WouldLack (dirOf v (a .0)) (nodeOf v (b .0)) ⊎ WouldLack (dirOf v (b .0)) (nodeOf v (a .0)) → WouldMisplace v (exchange a b)
   swapped a b (inl w) = record { dir = dirOf v (a .0); node = nodeOf v (b .0); gained = exchanged-one a b; lacking = w }
   swapped a b (inr w) = record { dir = dirOf v (b .0); node = nodeOf v (a .0); gained = exchanged-other a b; lacking = w }
 
-  by-number : (r : Request) → GivesRefusal C v r → WouldMisplace v r
-  unfolding check addKeyCheck removeKeyCheck setPolicyCheck getPolicyCheck createCheck removeCheck findCheck showCheck blockCheck
-  by-number (addKey d k) = other (addKey d k) (search tables depth 25)
-  by-number (removeKey d) = other (removeKey d) (search tables depth 25)
-  by-number (setPolicy i p x) = other (setPolicy i p x) (search tables depth 25)
-  by-number (getPolicy i) = other (getPolicy i) (search tables depth 25)
-  by-number (create p kind n x) = other (create p kind n x) (search tables depth 25)
-  by-number (link i p n) = λ h. record { dir = inodeAt v p; node = inodeAt v i; gained = linked i p n; lacking = link-exactly C v i p n .0 h .1 }
-  by-number (rename e p n) = λ h. record { dir = inodeAt v p; node = nodeOf v (e .0); gained = renamed e p n; lacking = rename-exactly C v e p n .0 h .1 }
-  by-number (exchange a b) = λ h. swapped a b (exchange-exactly C v a b .0 h .1)
-  by-number (remove e) = other (remove e) (search tables depth 25)
-  by-number (find p n) = other (find p n) (search tables depth 25)
-  by-number (show e b) = other (show e b) (search tables depth 25)
-  by-number (seal i n b) = other (seal i n b) (search tables depth 25)
-  by-number (unseal i n b) = other (unseal i n b) (search tables depth 25)
+  told : {r : Request} → Gives C v r → GivesRefusal C v r → Misplaces r
+  told (neither r f g) h = absurd (f .no (refused-by C v r EXDEV .0 h))
+  told (set-policy-gives i p x f) h = absurd (f .no (refused-by C v (setPolicy i p x) EXDEV .0 h))
+  told (link-gives i p n) h = let (d, w) = link-exactly C v i p n .0 h in (for-link d, record { dir = inodeAt v p; node = inodeAt v i; gained = linked i p n; lacking = w })
+  told (rename-gives e p n f) h = let (d, w) = rename-exactly C v e p n .0 h in (for-rename d, record { dir = inodeAt v p; node = nodeOf v (e .0); gained = renamed e p n; lacking = w })
+  told (exchange-gives a b f) h = let (d, w) = exchange-exactly C v a b .0 h in (for-exchange d, swapped a b w)
+
+  tells : {r : Request} {dir node : Inode} → WouldGain v r dir node → Ready v r → WouldLack dir node → GivesRefusal C v r
+  tells (linked i p n) (for-link d) w = link-exactly C v i p n .1 (d, w)
+  tells (renamed e p n) (for-rename d) w = rename-exactly C v e p n .1 (d, w)
+  tells (exchanged-one a b) (for-exchange d) w = exchange-exactly C v a b .1 (d, inl w)
+  tells (exchanged-other a b) (for-exchange d) w = exchange-exactly C v a b .1 (d, inr w)
+
+  by-number : (r : Request) → GivesRefusal C v r ↔ Misplaces r
+  by-number r = (told (gives C v r), λ d. tells (d .1 .gained) (d .0) (d .1 .lacking))
 
 -- ---- on a sound volume
 
@@ -213,10 +190,10 @@ module _ (C : Cipher) (v : Volume) (s : Sound v) where
   there (exchanged-one a b) h = let r = exchange-exactly C v a b .0 h .0 in (s .parents (a .0) (r .one), used _ (s .inodes-in-use (b .0) (r .other)))
   there (exchanged-other a b) h = let r = exchange-exactly C v a b .0 h .0 in (s .parents (b .0) (r .other), used _ (s .inodes-in-use (a .0) (r .one)))
 
-  by-number-there : (r : Request) → GivesRefusal C v r → (w : WouldMisplace v r) × (w .dir .kind ≡ 1) × (0 < w .node .kind)
-  by-number-there r h = let w = by-number C v r h in let k = there (w .gained) h in (w, k .0, k .1)
+  on-sound : (r : Request) → GivesRefusal C v r → (w : WouldMisplace v r) × (w .dir .kind ≡ 1) × (0 < w .node .kind)
+  on-sound r h = let w = by-number C v r .0 h .1 in let k = there (w .gained) h in (w, k .0, k .1)
 
--- ---- in a log: a refused request leaves the volume as it found it, and would be refused again
+-- ---- in a list: a refused request leaves the volume as it found it, and would be refused again
 
 module _ (C : Cipher) (law : Lawful C) where
   refused-again : (rs : List Request) (m : Moment) → List·Memᴰ m (run C rs) → m .answer ≡ refused 18 → GivesRefusal C (m .volume) (m .request)
@@ -229,7 +206,7 @@ module _ (C : Cipher) (law : Lawful C) where
 
   by-log : (rs : List Request) → AllTyped rs → (m : Moment) → List·Memᴰ m (run C rs) → m .answer ≡ refused 18
       → (w : WouldMisplace (m .volume) (m .request)) × (w .dir .kind ≡ 1) × (0 < w .node .kind)
-  by-log rs t m h a = by-number-there C (m .volume) (sound C law rs t m h) (m .request) (refused-again rs m h a)
+  by-log rs t m h a = on-sound C (m .volume) (sound C law rs t m h) (m .request) (refused-again rs m h a)
 
 pub policy-clause : (C : Cipher) → Lawful C → PolicyClause C
 policy-clause C law = record {
@@ -237,6 +214,7 @@ policy-clause C law = record {
   by-rename = λ v. rename-exactly C v;
   by-exchange = λ v. exchange-exactly C v;
   by-number = λ v. by-number C v;
+  on-sound = λ v s. on-sound C v s;
   by-log = by-log C law;
   rename-within = λ v s. rename-within C v s;
   exchange-within = λ v s. exchange-within C v s;

@@ -10,6 +10,7 @@ pub mod Run
 pub mod Sound
 pub mod Bytewise
 pub mod PolicyClause
+pub mod NotPermitted
 pub mod Meanings
 pub mod DoneWhen
 pub mod Does

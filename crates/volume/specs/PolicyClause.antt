@@ -49,9 +49,16 @@ pub record ExchangeReady (v : Volume) (a b : EntryNumber) : Type 0 where
   pub one-key : lacksKey v (inodeAt v (entryAt v a .parent)) ≡ false
   pub other-key : lacksKey v (inodeAt v (entryAt v b .parent)) ≡ false
 
+-- the same of any request: those of link, rename and exchange
+pub data Ready (v : Volume) : Request → Type 0 where
+  for-link : {i p : InodeNumber} {n : Bytes} → LinkReady v i p n → Ready v (link i p n)
+  for-rename : {e : EntryNumber} {p : InodeNumber} {n : Bytes} → RenameReady v e p n → Ready v (rename e p n)
+  for-exchange : {a b : EntryNumber} → ExchangeReady v a b → Ready v (exchange a b)
+
 -- ---- what a request would put where
 
--- by this request the directory `dir` would gain the inode `node`: link and rename put one inode into one directory, exchange one into each of two
+-- by this request the directory `dir` would gain the inode `node`, whatever its later checks say (a directory under itself, the name taken, no room): link and rename put one
+-- inode into one directory, exchange one into each of two
 pub data WouldGain (v : Volume) : Request → Inode → Inode → Type 0 where
   linked : (i p : InodeNumber) (n : Bytes) → WouldGain v (link i p n) (inodeAt v p) (inodeAt v i)
   renamed : (e : EntryNumber) (p : InodeNumber) (n : Bytes) → WouldGain v (rename e p n) (inodeAt v p) (nodeOf v (e .0))
@@ -79,9 +86,11 @@ pub record PolicyClause (C : Cipher) : Type 0 where
   -- each of the two directories would gain the other's inode
   pub by-exchange : (v : Volume) (a b : EntryNumber)
       → GivesRefusal C v (exchange a b) ↔ (ExchangeReady v a b × (WouldLack (dirOf v (a .0)) (nodeOf v (b .0)) ⊎ WouldLack (dirOf v (b .0)) (nodeOf v (a .0))))
-  -- the number is evidence whatever the request: no other gives it
-  pub by-number : (v : Volume) (r : Request) → GivesRefusal C v r → WouldMisplace v r
-  -- and in the log of every list, where the directory is one and the inode is there; the volume after the refused request is the one that it found
+  -- the same of any request: no other gives it, so the number is evidence by itself
+  pub by-number : (v : Volume) (r : Request) → GivesRefusal C v r ↔ (Ready v r × WouldMisplace v r)
+  -- on a sound volume the directory is one, and the inode is there
+  pub on-sound : (v : Volume) → Sound v → (r : Request) → GivesRefusal C v r → (w : WouldMisplace v r) × (w .dir .kind ≡ 1) × (0 < w .node .kind)
+  -- so too after every request of every list; the volume that a refused request leaves is the one that it found (Leaves.antt)
   pub by-log : (rs : List Request) → AllTyped rs → (m : Moment) → List·Memᴰ m (run C rs) → m .answer ≡ refused 18
       → (w : WouldMisplace (m .volume) (m .request)) × (w .dir .kind ≡ 1) × (0 < w .node .kind)
   -- a move within a directory gains it nothing, and is not refused so
