@@ -154,4 +154,8 @@ evidence = record {
       let d = line-read v (answers v line) h in
       let w = policy-clause fscrypt fscrypt-lawful .by-number v (d .0) .0 (d .2) .1 in
       (d .0, d .1, w, ap (λ (y : Said). y .volume) (line-said v (d .0) (d .2) (answers v line) (d .1)));
+  on-sound = λ v s line h.
+      let d = line-read v (answers v line) h in
+      let w = policy-clause fscrypt fscrypt-lawful .on-sound v s (d .0) (d .2) in
+      (d .0, d .1, w .0, w .1, w .2);
 }

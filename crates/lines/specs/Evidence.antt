@@ -1,6 +1,6 @@
 -- What a line is answered, by the request that it makes; and what the answer `error 18 EXDEV` proves: it is said exactly to a line that makes a request which is refused with
 -- 18, so to a link, rename or exchange by which an encrypted directory would have gained what lacks its policy (volume/specs/PolicyClause.antt). Assumes nothing.
-use Prim.Native.Nat.{ℕ}
+use Prim.Native.Nat.{ℕ, _<_}
 use mathlib.Core.Path.{_≡_}
 use mathlib.Core.Logic.{_≢_, _⊎_, _↔_}
 use mathlib.Core.Bool.{Bool, cond, not, _||_}
@@ -10,6 +10,7 @@ use lib.ListN.{getD}
 use Rattle.lists.specs.Bytes.{Bytes}
 use Rattle.fscrypt.specs.Cipher.{fscrypt}
 use Rattle.volume.specs.Request.{Request, Answer, refused}
+use Rattle.volume.specs.Sound.{Sound}
 use Rattle.volume.specs.PolicyClause.{GivesRefusal, WouldMisplace}
 use Rattle.volume.specs.declared.Volume.{Volume}
 use Rattle.script.specs.Text.{text}
@@ -30,7 +31,8 @@ pub record Evidence : Type 0 where
   -- a line is answered as the request that it makes; one that makes none is skipped, or malformed
   pub by-request : (v : Volume) (line : Bytes) → answered v line ≡ cond (isSkipped (withoutReturn line)) (saying [] v) (ended (toldTo v (requestIn line)))
   -- an answer is one line of a log: its last byte is a newline, and no other
-  pub one-line : (v : Volume) (line : Bytes) → ((answered v line) .said ≡ []) ⊎ ((t : Bytes) × ((i : ℕ) → getD t i 0 ≢ 10) × ((answered v line) .said ≡ t ++ text "\n"))
+  pub one-line : (v : Volume) (line : Bytes)
+      → ((answered v line) .said ≡ []) ⊎ ((t : Bytes) × ((i : ℕ) → getD t i 0 ≢ 10) × ((answered v line) .said ≡ t ++ text "\n"))
   -- the number is read off the text: no other answer is written so
   pub by-text : (block : Bool) (a : Answer) (b : Bytes) → (answerText block a b ≡ text "error 18 EXDEV") ↔ (a ≡ refused 18)
   -- a line is answered so exactly where it makes a request that is refused with 18
@@ -39,3 +41,6 @@ pub record Evidence : Type 0 where
   -- by that request an encrypted directory would have gained what lacks its policy, and the volume is as it was
   pub misplaced : (v : Volume) (line : Bytes) → (answered v line) .said ≡ text "error 18 EXDEV\n"
       → (r : Request) × (requestIn line ≡ some r) × WouldMisplace v r × ((answered v line) .volume ≡ v)
+  -- on a sound volume the directory is one, and the inode is there
+  pub on-sound : (v : Volume) → Sound v → (line : Bytes) → (answered v line) .said ≡ text "error 18 EXDEV\n"
+      → (r : Request) × (requestIn line ≡ some r) × (w : WouldMisplace v r) × (w .dir .kind ≡ 1) × (0 < w .node .kind)
