@@ -2,20 +2,22 @@
 -- as its request is. Assumes nothing.
 use Prim.Native.Nat.{ℕ}
 use native.Mathlib.Omega.{arith}
-use mathlib.Core.Path.{_≡_, refl, sym, _∙_, ap}
+use mathlib.Core.Path.{_≡_, refl, sym, _∙_, ap, subst}
 use mathlib.Core.Logic.{_≢_, _⊎_, inl, inr, _↔_}
 use mathlib.Core.Bool.{Bool, true, false, cond, not, _||_, false≢true}
 use mathlib.Core.Option.{Option, some, none}
 use mathlib.Core.List.{[], _∷_, _++_, append-cancel-right}
 use lib.ListN.{getD}
-use Rattle.lists.specs.Bytes.{Bytes}
-use Rattle.lists.proofs.Slots.{by-test}
+use Rattle.lists.specs.Bytes.{Bytes, ByteList}
+use Rattle.lists.proofs.Slots.{by-test, by-cond}
 use Rattle.errno.specs.declared.Errno.the-variants.{EXDEV}
 use Rattle.fscrypt.specs.Cipher.{fscrypt}
 use Rattle.fscrypt.proofs.Lawfulness.{fscrypt-lawful}
 use Rattle.volume.specs.Request.{Request, lends, Answer, refused, done, created, at, policyIs, shown, Outcome}
+use Rattle.volume.specs.Sound.{Sound}
 use Rattle.volume.specs.PolicyClause.{GivesRefusal}
 use Rattle.volume.specs.declared.Volume.{Volume}
+use Rattle.volume.proofs.Soundness.{sound-kept}
 use Rattle.volume.proofs.Leaves.{leaves}
 use Rattle.volume.proofs.PolicyClause.{policy-clause}
 use Rattle.script.specs.Text.{text}
@@ -28,6 +30,7 @@ use Rattle.lines.specs.Answers.{errnoName, errorText, shownText, answerT
 use Rattle.lines.specs.Lines.{requestOf, answersBlock, toldTo, respond, withoutReturn, isSkipped, isOverlong, commanded, ended, answered}
 use Rattle.lines.specs.Evidence.{requestIn, Evidence}
 use Rattle.lines.proofs.Texts.{error-is}
+use Rattle.lines.proofs.TypedLines.{TypedIn, typed-in}
 use Rattle.lines.proofs.OneLine.{Printing, prints, no-newline, lastAfter, last-append, named, answer}
 
 -- ---- the number is read off the text
@@ -106,6 +109,18 @@ answers v line =
     (λ h. skipped (by-request v line ∙ ap (λ (t : Bool). cond t (saying [] v) (ended (toldTo v (requestIn line)))) h) (skipped-none line h))
     (λ h. asked (by-request v line ∙ ap (λ (t : Bool). cond t (saying [] v) (ended (toldTo v (requestIn line)))) h))
 
+-- ---- a line leaves a sound volume sound
+
+told-sound : (v : Volume) → Sound v → (o : Option Request) → TypedIn o → Sound ((toldTo v o) .volume)
+told-sound v s none t = s
+told-sound v s (some r) t = sound-kept fscrypt fscrypt-lawful v s r t
+
+stays-sound : (v : Volume) → Sound v → (line : Bytes) → ByteList line → Sound ((answered v line) .volume)
+stays-sound v s line h =
+    let P : Said → Type 0 = λ x. Sound (x .volume) in
+    subst P (sym (by-request v line))
+    (by-cond P (isSkipped (withoutReturn line)) (saying [] v) (ended (toldTo v (requestIn line))) (λ q. s) (λ q. told-sound v s (requestIn line) (typed-in line h)))
+
 -- ---- an answer is one line
 
 told-prints : (v : Volume) (o : Option Request) → Printing ((toldTo v o) .said)
@@ -147,6 +162,7 @@ module _ (v : Volume) {x : Said} {o : Option Request} where
 pub evidence : Evidence
 evidence = record {
   by-request = by-request;
+  stays-sound = stays-sound;
   one-line = λ v line. one-line (answers v line);
   by-text = by-text;
   by-line = λ v line. (line-read v (answers v line), λ d. ap (λ (y : Said). y .said) (line-said v (d .0) (d .2) (answers v line) (d .1)));

@@ -4,4 +4,5 @@ pub mod Saying
 pub mod Answering
 pub mod Room
 mod OneLine
+mod TypedLines
 pub mod Evidence

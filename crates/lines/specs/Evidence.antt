@@ -7,7 +7,7 @@ use mathlib.Core.Bool.{Bool, cond, not, _||_}
 use mathlib.Core.Option.{Option, some, none}
 use mathlib.Core.List.{[], _++_}
 use lib.ListN.{getD}
-use Rattle.lists.specs.Bytes.{Bytes}
+use Rattle.lists.specs.Bytes.{Bytes, ByteList}
 use Rattle.fscrypt.specs.Cipher.{fscrypt}
 use Rattle.volume.specs.Request.{Request, Answer, refused}
 use Rattle.volume.specs.Sound.{Sound}
@@ -30,6 +30,8 @@ requestIn line =
 pub record Evidence : Type 0 where
   -- a line is answered as the request that it makes; one that makes none is skipped, or malformed
   pub by-request : (v : Volume) (line : Bytes) → answered v line ≡ cond (isSkipped (withoutReturn line)) (saying [] v) (ended (toldTo v (requestIn line)))
+  -- a line of bytes leaves a sound volume sound
+  pub stays-sound : (v : Volume) → Sound v → (line : Bytes) → ByteList line → Sound ((answered v line) .volume)
   -- an answer is one line of a log: its last byte is a newline, and no other
   pub one-line : (v : Volume) (line : Bytes)
       → ((answered v line) .said ≡ []) ⊎ ((t : Bytes) × ((i : ℕ) → getD t i 0 ≢ 10) × ((answered v line) .said ≡ t ++ text "\n"))

@@ -1,3 +1,4 @@
 -- The laws of session.
 pub mod Skipping
 pub mod Feeding
+pub mod Logged

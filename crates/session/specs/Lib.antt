@@ -1,2 +1,3 @@
--- The definitions of session: what is answered to an input.
+-- The definitions of session: what is answered to an input, and what that proves.
 pub mod Input
+pub mod Logged

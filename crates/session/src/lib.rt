@@ -3,3 +3,10 @@
 mod input;
 
 pub use input::run;
+ghost use Rattle.session.specs.Logged.{Logged};
+
+// Whatever bytes have come, the volume is sound; and a line that is then answered `error 18 EXDEV` makes a request by which an encrypted directory would have gained what lacks
+// its policy. The function does nothing: its `ensures` is the theorem.
+pub fn each_error_18_is_evidence()
+    ensures { λ _. ⌜ Logged ⌝ }
+{}
