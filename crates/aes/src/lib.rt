@@ -5,7 +5,7 @@ pub mod states;
 pub mod words;
 
 // A word of four bytes: a column of the state, whose rows these are, or a word of the key schedule.
-#[derive(Drop)]
+#[derive(Clone, Copy)]
 pub struct Word {
     pub r0: u8,
     pub r1: u8,
@@ -14,7 +14,7 @@ pub struct Word {
 }
 
 // The state: four columns.
-#[derive(Drop)]
+#[derive(Clone, Copy)]
 pub struct State {
     pub c0: Word,
     pub c1: Word,

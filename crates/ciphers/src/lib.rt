@@ -7,7 +7,7 @@ ghost use Rattle.ciphers.specs.Entries.{outcome, cts_encrypt, cts_decrypt, xts_e
 ghost use Rattle.ciphers.specs.Meanings.{Meanings};
 
 // An answer: 0 for done, or 22 for EINVAL.
-#[derive(Drop)]
+#[derive(Clone, Copy)]
 pub struct Status {
     pub errno: u8,
 }

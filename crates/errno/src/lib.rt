@@ -1,9 +1,11 @@
 // The refusals, and what a chain of checks comes to. specs/Refusals.antt has Linux's numbers.
+#![tactic(auto)]
+
 ghost use Rattle.std.specs.Prelude.{◌≡◌};
 ghost use Rattle.errno.specs.Refusals.{number};
 ghost use Rattle.errno.specs.Meanings.{TableMeanings};
 
-#[derive(Drop)]
+#[derive(Clone, Copy)]
 pub enum Errno {
     EPERM,
     ENOENT,
@@ -22,7 +24,7 @@ pub enum Errno {
 }
 
 // What a chain of checks comes to.
-#[derive(Drop)]
+#[derive(Clone, Copy)]
 pub enum Checked {
     Fine,
     Refused(Errno),

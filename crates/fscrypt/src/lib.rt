@@ -10,21 +10,21 @@ ghost use Rattle.fscrypt.specs.Meanings.{NameMeanings};
 use errno::Checked;
 
 // A derived key by value: the first len bytes. It is as long as its master key.
-#[derive(Drop)]
+#[derive(Clone, Copy)]
 pub struct DerivedKey {
     pub len: u8,
     pub bytes: [u8; 64],
 }
 
 // A name by value: the first len bytes, and zeros.
-#[derive(Drop)]
+#[derive(Clone, Copy)]
 pub struct Name {
     pub len: u8,
     pub bytes: [u8; 255],
 }
 
 // What reading a stored name comes to; a refused one is all zeros.
-#[derive(Drop)]
+#[derive(Clone, Copy)]
 pub struct NameRead {
     pub checked: Checked,
     pub name: Name,

@@ -13,14 +13,14 @@ use script::{Args, Verb, arguments, output, verbs, words};
 use volume::Volume;
 
 // What is said to a line: so many bytes at the start of the output buffer, and the volume then.
-#[derive(Drop)]
+#[derive(Clone, Copy)]
 struct Response {
     len: usize,
     volume: Volume,
 }
 
 // The same, with whether the buffers had room for the line. Where they had not, nothing is said, and the volume and the buffers are as they were.
-#[derive(Drop)]
+#[derive(Clone, Copy)]
 pub struct LineAnswer {
     pub fits: bool,
     pub len: usize,

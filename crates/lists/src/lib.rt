@@ -1,4 +1,6 @@
 // Byte strings and tables: definitions, laws, the one comparison and the one copy; a hex digit.
+#![tactic(auto)]
+
 pub mod zeros;
 
 ghost use Rattle.std.specs.Prelude.{◌≡◌, ◌+◌, ◌≤◌, length};

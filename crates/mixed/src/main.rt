@@ -4,7 +4,7 @@ use libc::STDOUT_FILENO;
 use volume::{Changed, CreateAnswer, EntryAnswer, Reply, ShowAnswer, Volume};
 
 // The volume, and 1 where the request was done.
-#[derive(Drop)]
+#[derive(Clone, Copy)]
 struct Turn {
     volume: Volume,
     done: u64,

@@ -10,7 +10,7 @@ use errno::{Checked, Errno};
 use lists::zeros;
 
 // A policy: what a directory's files are encrypted with.
-#[derive(Drop)]
+#[derive(Clone, Copy)]
 pub struct Policy {
     pub version: u8,
     pub contents: u8,
@@ -20,20 +20,20 @@ pub struct Policy {
 }
 
 // A context: the policy of an inode, and the nonce of its own.
-#[derive(Drop)]
+#[derive(Clone, Copy)]
 pub struct Context {
     pub policy: Policy,
     pub nonce: [u8; 16],
 }
 
 // What reading the bytes of a policy comes to; a refused one is all zeros.
-#[derive(Drop)]
+#[derive(Clone, Copy)]
 pub struct PolicyRead {
     pub checked: Checked,
     pub policy: Policy,
 }
 
-#[derive(Drop)]
+#[derive(Clone, Copy)]
 pub struct ContextRead {
     pub checked: Checked,
     pub context: Context,

@@ -5,7 +5,7 @@ ghost use Rattle.script.specs.Cutting.{keep, Cuts};
 use crate::words;
 
 // What has been taken: how many bytes of the line the buffer holds, how many bytes that took of what came, and whether a newline ended the line.
-#[derive(Drop)]
+#[derive(Clone, Copy)]
 pub struct Cut {
     pub used: usize,
     pub taken: usize,

@@ -9,14 +9,14 @@ pub mod verbs;
 pub mod words;
 
 // A word read as a number.
-#[derive(Drop)]
+#[derive(Clone, Copy)]
 pub enum Number {
     Is(u64),
     Not,
 }
 
 // A request's word.
-#[derive(Drop)]
+#[derive(Clone, Copy)]
 pub enum Verb {
     AddKey,
     RemoveKey,
@@ -35,7 +35,7 @@ pub enum Verb {
 }
 
 // What a word after it should be. First and Second are the request's numbers, Text a KEY, POLICY, NAME or BLOCK.
-#[derive(Drop)]
+#[derive(Clone, Copy)]
 pub enum Sort {
     First,
     Second,
@@ -47,7 +47,7 @@ pub enum Sort {
 }
 
 // The words that a request takes.
-#[derive(Drop)]
+#[derive(Clone, Copy)]
 pub struct Shape {
     pub one: Sort,
     pub two: Sort,
@@ -56,7 +56,7 @@ pub struct Shape {
 }
 
 // What the words after the request's come to; good is false where one is not what it should be.
-#[derive(Drop)]
+#[derive(Clone, Copy)]
 pub struct Args {
     pub good: bool,
     pub first: u64,

@@ -15,14 +15,14 @@ const LINE_ROOM: usize = 131074;
 const OUT_ROOM: usize = 263200;
 
 // How far the input has been read: the volume, and how many bytes of the next line the buffer holds.
-#[derive(Drop)]
+#[derive(Clone, Copy)]
 struct Progress {
     volume: Volume,
     used: usize,
 }
 
 // The same after a part of a chunk, with how many bytes that took, and how many bytes of the output buffer it says.
-#[derive(Drop)]
+#[derive(Clone, Copy)]
 struct Turn {
     volume: Volume,
     used: usize,

@@ -9,7 +9,7 @@ use field::sbox;
 use script::{Number, numbers};
 
 // The functions of a key and a text.
-#[derive(Drop)]
+#[derive(Clone, Copy)]
 pub enum TextCall {
     EcbEncrypt,
     CtsEncrypt,
@@ -17,7 +17,7 @@ pub enum TextCall {
 }
 
 // The functions of a key, a block's number and the block.
-#[derive(Drop)]
+#[derive(Clone, Copy)]
 pub enum BlockCall {
     XtsEncrypt,
     XtsDecrypt,

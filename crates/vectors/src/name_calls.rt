@@ -8,7 +8,7 @@ use ids::EntryNumber;
 use policy::{Context, ContextRead};
 use script::{Number, numbers};
 
-#[derive(Drop)]
+#[derive(Clone, Copy)]
 pub enum NameCall {
     CheckName,
     StoreName,

@@ -3,7 +3,7 @@ use crate::{answers, arguments};
 use errno::Checked;
 use policy::{ContextRead, PolicyRead};
 
-#[derive(Drop)]
+#[derive(Clone, Copy)]
 pub enum PolicyCall {
     ReadPolicy,
     ReadContext,

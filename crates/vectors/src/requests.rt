@@ -5,7 +5,7 @@ use crate::policy_calls::PolicyCall;
 use crate::{answers, cipher_calls, name_calls, policy_calls};
 use script::words;
 
-#[derive(Drop)]
+#[derive(Clone, Copy)]
 enum Request {
     KeyExpansion,
     OnText(TextCall),

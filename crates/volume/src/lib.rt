@@ -4,7 +4,7 @@ use ids::{EntryNumber, InodeNumber};
 use policy::Context;
 
 // A slot of the keyring (document 01: ring): length 0 is a free one. The key is the first len bytes.
-#[derive(Drop)]
+#[derive(Clone, Copy)]
 pub struct Key {
     pub len: u8,
     pub descriptor: [u8; 8],
@@ -23,7 +23,7 @@ pub const SYMLINK: u8 = 3;
 pub const SPECIAL: u8 = 4;
 
 // An inode (document 01: thing), of one of these kinds. It is encrypted if it has a context.
-#[derive(Drop)]
+#[derive(Clone, Copy)]
 pub struct Inode {
     pub kind: u8,
     pub encrypted: bool,
@@ -31,7 +31,7 @@ pub struct Inode {
 }
 
 // A directory entry (document 01: place): length 0 is a free one. The stored name is the first len bytes.
-#[derive(Drop)]
+#[derive(Clone, Copy)]
 pub struct Entry {
     pub len: u8,
     pub parent: InodeNumber,
@@ -47,7 +47,7 @@ pub const INODE_SLOTS: usize = 64;
 pub const ENTRY_SLOTS: usize = 64;
 
 // A volume (document 01: shelf).
-#[derive(Drop)]
+#[derive(Clone, Copy)]
 pub struct Volume {
     pub keys: [Key; KEY_SLOTS],
     pub inodes: [Inode; INODE_SLOTS],
@@ -55,53 +55,53 @@ pub struct Volume {
 }
 
 // The answer of a request that answers no more than that it was done.
-#[derive(Drop)]
+#[derive(Clone, Copy)]
 pub enum Reply {
     Done,
     Refused(Errno),
 }
 
-#[derive(Drop)]
+#[derive(Clone, Copy)]
 pub struct Changed {
     pub answer: Reply,
     pub volume: Volume,
 }
 
 // What create answers: the new inode and entry, or the refusal.
-#[derive(Drop)]
+#[derive(Clone, Copy)]
 pub enum CreateAnswer {
     Created(InodeNumber, EntryNumber),
     Refused(Errno),
 }
 
-#[derive(Drop)]
+#[derive(Clone, Copy)]
 pub struct CreateOutcome {
     pub answer: CreateAnswer,
     pub volume: Volume,
 }
 
 // What link and find answer: the entry, or the refusal.
-#[derive(Drop)]
+#[derive(Clone, Copy)]
 pub enum EntryAnswer {
     At(EntryNumber),
     Refused(Errno),
 }
 
-#[derive(Drop)]
+#[derive(Clone, Copy)]
 pub struct LinkOutcome {
     pub answer: EntryAnswer,
     pub volume: Volume,
 }
 
 // What get policy answers: the 12 bytes, which are zeros where it is refused.
-#[derive(Drop)]
+#[derive(Clone, Copy)]
 pub struct PolicyOutcome {
     pub answer: Reply,
     pub policy: [u8; 12],
 }
 
 // How a name is shown: it is stored plain, it was decrypted (document 01: read with the key), or it was encoded (shown without it).
-#[derive(Drop)]
+#[derive(Clone, Copy)]
 pub enum Form {
     Plain,
     Decrypted,
@@ -109,7 +109,7 @@ pub enum Form {
 }
 
 // What show answers beside the name, which it writes into the lent buffer.
-#[derive(Drop)]
+#[derive(Clone, Copy)]
 pub struct ShownEntry {
     pub parent: InodeNumber,
     pub inode: InodeNumber,
@@ -118,14 +118,14 @@ pub struct ShownEntry {
     pub len: u8,
 }
 
-#[derive(Drop)]
+#[derive(Clone, Copy)]
 pub enum ShowAnswer {
     Shown(ShownEntry),
     Refused(Errno),
 }
 
 // What the climb from a directory towards the root meets first.
-#[derive(Drop)]
+#[derive(Clone, Copy)]
 pub enum Met {
     Moved,
     Root,
