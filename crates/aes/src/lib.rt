@@ -1,4 +1,6 @@
 // AES, FIPS 197 section 5, for keys of 4 to 8 words: the transformations of the state, Cipher, InvCipher and KeyExpansion.
+#![tactic(auto)]
+
 pub mod cipher;
 pub mod key_expansion;
 pub mod states;

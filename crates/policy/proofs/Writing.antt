@@ -16,7 +16,7 @@ use Rattle.policy.specs.declared.Context.{Context}
 use Rattle.policy.specs.contracts.Policy.{the_row as policy-row}
 
 pub descriptor_length : (p : Policy) {vs : List Val} → Is policy-row p vs → length p.descriptor ≡ 8
-descriptor_length p g = simp length-map at g.1.1.1.1.1.1.0.1.0.1
+descriptor_length p g = g.1.1.1.1.1.1.0.1.0.1
 
 pub policy_put : (z b : Bytes) (p : Policy) → length z ≡ 12 → length p.descriptor ≡ 8 → b ≡ sets z 0 (field_bytes p.version p) → b ≡ policy_bytes p
 unfolding policy_bytes

@@ -1,4 +1,6 @@
 // Encryption policies and contexts, as Linux's fs/crypto/policy.c has them: their bytes, which are valid, and when two are the same.
+#![tactic(auto)]
+
 mod fields;
 
 ghost use Rattle.std.specs.Prelude.{◌≡◌, ◌≤◌};

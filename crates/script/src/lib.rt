@@ -1,4 +1,6 @@
 // The request script's texts: words, numbers, byte strings and request lines, each read as specs/ says, and the texts of answers. No function is about a volume.
+#![tactic(auto)]
+
 pub mod arguments;
 pub mod cutting;
 pub mod numbers;

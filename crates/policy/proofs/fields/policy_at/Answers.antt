@@ -1,0 +1,7 @@
+-- `policy_at` is `policy_at`, field by field. Assumes nothing.
+use Rattle.policy.specs.Policies.{policy_at}
+use Rattle.policy.proofs.fields.policy_at.Goals as goal
+
+pub returns : goal.returns
+unfolding policy_at
+returns c = cc

@@ -1,0 +1,5 @@
+-- `no_policy` is `no_policy`, all zeros. Assumes nothing.
+use Rattle.policy.proofs.no_policy.Goals as goal
+
+pub returns : goal.returns
+returns c = cc

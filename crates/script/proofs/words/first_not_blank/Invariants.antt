@@ -1,0 +1,12 @@
+-- `first_not_blank`: every byte before `i` is a blank. Assumes nothing.
+use Prim.Native.Nat.{◌≤◌, ◌-◌}
+use lib.ListN.{length}
+use Rattle.lists.proofs.Loops.{Scanned}
+use Rattle.script.specs.Words.{is_not_blank}
+use Rattle.script.proofs.words.first_not_blank.Given as goal
+
+abbrev pub invariant-loop-i : goal.invariant-loop-i
+invariant-loop-i l = (l.i ≤ length l.s) × Scanned is_not_blank l.s l.i
+
+abbrev pub decreases-loop-i : goal.decreases-loop-i
+decreases-loop-i l = length l.s - l.i
