@@ -1,0 +1,15 @@
+-- `cts::encrypt` meets its contract: by the laws `cs3_long` and `cs3_one`, from what its calls ensure. Assumes nothing.
+use mathlib.Core.Path.{sym, ◌∙◌}
+use Rattle.modes.specs.Cbc.{cbc_step, cbc_next}
+use Rattle.modes.specs.Cts.{last_two, cs3_encrypt, cbc_cs3_encrypt}
+use Rattle.modes.proofs.BlockLoop.{going_end}
+use Rattle.modes.proofs.CtsSteal.{long, cs3, cs3_long, cs3_one}
+use Rattle.modes.proofs.cts.encrypt.Goals as goal
+
+pub returns-then-l-gt16 : goal.returns-then-l-gt16
+unfolding cbc_cs3_encrypt cs3_encrypt cs3 long
+returns-then-l-gt16 c = c.steal.ensures ∙ sym (cs3_long (cbc_step _ _) cbc_next (last_two _ _) _ _ c.if-l-gt16.true)
+
+pub returns : goal.returns
+unfolding cbc_cs3_encrypt cs3_encrypt cs3 long
+returns c = going_end _ _ _ _ _ _ _ c.encrypt.ensures c.if-l-gt16.false ∙ sym (cs3_one (cbc_step _ _) cbc_next (last_two _ _) _ _ c.if-l-gt16.false)
