@@ -1,5 +1,7 @@
 // The ciphers, for a caller that need not know how they work: any key, any buffer, no condition. A call with a wrong length answers 22 (EINVAL) and
 // leaves the buffer as it was. specs/Entries.antt says what each call does, and proofs/Laws.antt has the laws that callers cite.
+#![tactic(auto)]
+
 mod keys;
 
 ghost use Rattle.std.specs.Prelude.{◌≡◌};
