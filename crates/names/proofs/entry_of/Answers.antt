@@ -6,7 +6,7 @@ use mathlib.Core.Path.{ap, ◌∙◌}
 use Rattle.names.proofs.entry_of.Goals as goal
 
 pub stored_name-requires : goal.stored_name-requires
-stored_name-requires c = record { name_len_bound = c.requires.name_len_bound; dir_value = ap (lacks_key _) c.inode_at-dir.ensures ∙ c.requires.p_value }
+stored_name-requires c = record { name_fits = c.requires.name_fits; key_held = ap (lacks_key _) c.inode_at-dir.ensures ∙ c.requires.key_held }
 
 pub returns : goal.returns
 returns c = entry_by fscrypt _ _ _ c.inode_at-dir.result c.stored_name.result _ c.inode_at-dir.ensures c.stored_name.ensures c.entry_named.ensures

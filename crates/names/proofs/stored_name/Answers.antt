@@ -10,7 +10,7 @@ pub returns-then-not-dir : goal.returns-then-not-dir
 returns-then-not-dir c = stored_plain fscrypt _ _ _ _ (not-true _ c.if-not-dir.true) c.pack.ensures
 
 pub derived_key-key-requires : goal.derived_key-key-requires
-derived_key-key-requires c = key_present_lem _ _ (not-false _ c.if-not-dir.false) c.requires.dir_value
+derived_key-key-requires c = key_present_lem _ _ (not-false _ c.if-not-dir.false) c.requires.key_held
 
 pub slice_bounds-bytes-end : goal.slice_bounds-bytes-end
 slice_bounds-bytes-end c =

@@ -21,7 +21,7 @@ unfolding create_check
 returns-then-lacks_key c = search calls depth 25
 
 pub entry_of-requires : goal.entry_of-requires
-entry_of-requires c = record { name_len_bound = search fits; p_value = sym c.lacks_key.ensures ∙ c.if-lacks_key.false }
+entry_of-requires c = record { name_fits = search fits; key_held = sym c.lacks_key.ensures ∙ c.if-lacks_key.false }
 
 pub returns-then-is_found : goal.returns-then-is_found
 unfolding create_check

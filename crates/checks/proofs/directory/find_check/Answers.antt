@@ -17,7 +17,7 @@ unfolding find_check
 returns-then-lacks_key c = search calls depth 25
 
 pub entry_of-requires : goal.entry_of-requires
-entry_of-requires c = record { name_len_bound = search fits; p_value = search bool_via }
+entry_of-requires c = record { name_fits = search fits; key_held = search bool_via }
 
 pub returns-then-not-is_found : goal.returns-then-not-is_found
 unfolding find_check

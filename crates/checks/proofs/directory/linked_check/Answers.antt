@@ -14,7 +14,7 @@ pub returns-then-is_refused_in : goal.returns-then-is_refused_in
 returns-then-is_refused_in c = search lines depth 25
 
 pub entry_of-requires : goal.entry_of-requires
-entry_of-requires c = record { name_len_bound = search rules; p_value = search bool_via }
+entry_of-requires c = record { name_fits = search rules; key_held = search bool_via }
 
 pub returns-then-is_found : goal.returns-then-is_found
 returns-then-is_found c = search lines depth 25

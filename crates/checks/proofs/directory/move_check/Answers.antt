@@ -20,7 +20,7 @@ pub returns-then-is_under_itself : goal.returns-then-is_under_itself
 returns-then-is_under_itself c = search calls depth 25
 
 pub entry_of-requires : goal.entry_of-requires
-entry_of-requires c = record { name_len_bound = search rules; p_value = sym c.lacks_key-2.ensures ∙ c.if-lacks_key-2.false }
+entry_of-requires c = record { name_fits = search rules; key_held = sym c.lacks_key-2.ensures ∙ c.if-lacks_key-2.false }
 
 pub returns-then-is_found : goal.returns-then-is_found
 returns-then-is_found c = search calls depth 25

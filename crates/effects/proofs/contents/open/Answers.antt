@@ -6,7 +6,7 @@ use Rattle.effects.proofs.contents.open.Goals as goal
 
 pub derived_key-key-requires : goal.derived_key-key-requires
 derived_key-key-requires c =
-    key_there _ _ _ c.inode_at-node.ensures c.requires.i_value c.requires.i_value_2
+    key_there _ _ _ c.inode_at-node.ensures c.requires.key_held c.requires.is_encrypted
 
 pub slice_bounds-bytes-end : goal.slice_bounds-bytes-end
 slice_bounds-bytes-end c = c.derived_key-key.ensures.fits

@@ -6,7 +6,7 @@ use Rattle.effects.proofs.Acting.{entry_stored}
 use Rattle.effects.proofs.directory.stored_entry.Goals as goal
 
 pub stored_name-s-requires : goal.stored_name-s-requires
-stored_name-s-requires c = record { name_len_bound = c.requires.name_len_bound; dir_value = ap (lacks_key _) c.inode_at-dir.ensures ∙ c.requires.p_value }
+stored_name-s-requires c = record { name_fits = c.requires.name_fits; key_held = ap (lacks_key _) c.inode_at-dir.ensures ∙ c.requires.key_held }
 
 pub returns : goal.returns
 returns c =

@@ -2,11 +2,7 @@
 use Rattle.fscrypt.specs.Cipher.{fscrypt}
 use Rattle.fscrypt.proofs.Lawfulness.{fscrypt_lawful}
 use Rattle.volume.proofs.Soundness.{sound, budget}
-use Rattle.requests.proofs.claims.the_climb_ends.Statement.{statement}
-use Rattle.requests.proofs.claims.the_climb_ends.Tie as tie
+use Rattle.requests.proofs.claims.the_climb_ends.Goals as goal
 
-returns : tie.Need-returns
+pub returns : goal.returns
 returns c = λ rs t m h. budget m.volume (sound fscrypt fscrypt_lawful rs t m h)
-
-pub the-climb-ends-spec : {M : Type 1} → statement M
-the-climb-ends-spec = tie.close (tie.spec returns)

@@ -2,11 +2,7 @@
 use Rattle.fscrypt.specs.Cipher.{fscrypt}
 use Rattle.fscrypt.proofs.Lawfulness.{fscrypt_lawful}
 use Rattle.volume.proofs.SealedOpens.{sealed_opens}
-use Rattle.requests.proofs.claims.what_was_encrypted_decrypts.Statement.{statement}
-use Rattle.requests.proofs.claims.what_was_encrypted_decrypts.Tie as tie
+use Rattle.requests.proofs.claims.what_was_encrypted_decrypts.Goals as goal
 
-returns : tie.Need-returns
+pub returns : goal.returns
 returns c = sealed_opens fscrypt fscrypt_lawful
-
-pub what-was-encrypted-decrypts-spec : {M : Type 1} → statement M
-what-was-encrypted-decrypts-spec = tie.close (tie.spec returns)

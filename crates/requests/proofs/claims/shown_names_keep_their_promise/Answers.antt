@@ -2,11 +2,7 @@
 use Rattle.fscrypt.specs.Cipher.{fscrypt}
 use Rattle.fscrypt.proofs.Lawfulness.{fscrypt_lawful}
 use Rattle.volume.proofs.ShownApart.{promise_kept}
-use Rattle.requests.proofs.claims.shown_names_keep_their_promise.Statement.{statement}
-use Rattle.requests.proofs.claims.shown_names_keep_their_promise.Tie as tie
+use Rattle.requests.proofs.claims.shown_names_keep_their_promise.Goals as goal
 
-returns : tie.Need-returns
+pub returns : goal.returns
 returns c = promise_kept fscrypt fscrypt_lawful
-
-pub shown-names-keep-their-promise-spec : {M : Type 1} → statement M
-shown-names-keep-their-promise-spec = tie.close (tie.spec returns)

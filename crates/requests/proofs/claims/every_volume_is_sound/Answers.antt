@@ -2,11 +2,7 @@
 use Rattle.fscrypt.specs.Cipher.{fscrypt}
 use Rattle.fscrypt.proofs.Lawfulness.{fscrypt_lawful}
 use Rattle.volume.proofs.Soundness.{fresh_sound, sound, fresh_bytes, bytewise}
-use Rattle.requests.proofs.claims.every_volume_is_sound.Statement.{statement}
-use Rattle.requests.proofs.claims.every_volume_is_sound.Tie as tie
+use Rattle.requests.proofs.claims.every_volume_is_sound.Goals as goal
 
-returns : tie.Need-returns
+pub returns : goal.returns
 returns c = (fresh_sound, fresh_bytes, λ rs t m h. (sound fscrypt fscrypt_lawful rs t m h, bytewise fscrypt fscrypt_lawful rs t m h))
-
-pub every-volume-is-sound-spec : {M : Type 1} → statement M
-every-volume-is-sound-spec = tie.close (tie.spec returns)

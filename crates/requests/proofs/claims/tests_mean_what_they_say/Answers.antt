@@ -9,10 +9,9 @@ use Rattle.volume.specs.Volume.{fresh}
 use Rattle.volume.proofs.Soundness.{fresh_sound, sound}
 use Rattle.volume.proofs.PlainMeanings.{plain_meanings}
 use Rattle.volume.proofs.Meanings.{meanings}
-use Rattle.requests.proofs.claims.tests_mean_what_they_say.Statement.{statement}
-use Rattle.requests.proofs.claims.tests_mean_what_they_say.Tie as tie
+use Rattle.requests.proofs.claims.tests_mean_what_they_say.Goals as goal
 
-returns : tie.Need-returns
+pub returns : goal.returns
 returns c = record {
   byte_strings = bytes_mean;
   tables = tables_mean;
@@ -22,6 +21,3 @@ returns c = record {
   on_fresh = meanings fresh fresh_sound;
   on_every = λ rs t m h. meanings m.volume (sound fscrypt fscrypt_lawful rs t m h);
 }
-
-pub tests-mean-what-they-say-spec : {M : Type 1} → statement M
-tests-mean-what-they-say-spec = tie.close (tie.spec returns)

@@ -2,11 +2,7 @@
 use Rattle.fscrypt.specs.Cipher.{fscrypt}
 use Rattle.fscrypt.proofs.Lawfulness.{fscrypt_lawful}
 use Rattle.volume.proofs.PolicyClause.{policy_clause}
-use Rattle.requests.proofs.claims.policies_hold.Statement.{statement}
-use Rattle.requests.proofs.claims.policies_hold.Tie as tie
+use Rattle.requests.proofs.claims.policies_hold.Goals as goal
 
-returns : tie.Need-returns
+pub returns : goal.returns
 returns c = policy_clause fscrypt fscrypt_lawful
-
-pub policies-hold-spec : {M : Type 1} → statement M
-policies-hold-spec = tie.close (tie.spec returns)
