@@ -1,5 +1,7 @@
 // A line of a request script, and its answer: its text and the volume after it are what specs/Lines.antt says. `answer_line` takes any line and any buffers:
 // it asks nothing of its caller. The texts of answers are in answers.rt, and each request has its function in calls.rt.
+#![tactic(auto)]
+
 mod answers;
 mod calls;
 
