@@ -30,7 +30,7 @@ use Rattle.volume.specs.Run.{Moment, moment_of, run_from, run}
 use Rattle.volume.specs.Sound.{Sound}
 use Rattle.volume.specs.Bytewise.{Bytewise}
 use Rattle.volume.specs.SealedOpens.{ShowsAs}
-use Rattle.volume.specs.GivenNames.{Names, later, after, names_from, given}
+use Rattle.volume.specs.GivenNames.{Names, later, after, names_from}
 use Rattle.volume.specs.KeyedNames.{Keys, key_for, renewed, keys_after, keys_from, named_under, HasKey, WrongKey, ShownByKey, EveryRunKeyed}
 use Rattle.ids.specs.declared.EntryNumber.{EntryNumber}
 use Rattle.volume.specs.declared.Inode.{Inode}

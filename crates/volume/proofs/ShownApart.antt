@@ -12,7 +12,7 @@ use Rattle.lists.specs.Bytes.{Bytes, ByteList}
 use Rattle.lists.proofs.ByteStrings.{take_bytes}
 use Rattle.lists.proofs.Slots.{by_eq}
 use Rattle.fscrypt.specs.Cipher.{Cipher, Lawful}
-use Rattle.fscrypt.specs.Names.{encrypted, name_bytes}
+use Rattle.fscrypt.specs.Names.{name_bytes}
 use Rattle.fscrypt.specs.Encoded.{encoded}
 use Rattle.fscrypt.proofs.Shown.{encoded_length_low, encoded_length_high, encoded_fair}
 use Rattle.fscrypt.proofs.Distinct.{encoded_apart}
@@ -20,7 +20,7 @@ use Rattle.volume.specs.Volume.{name_of}
 use Rattle.volume.specs.Request.{Request, show, shown, Outcome, AllTyped, ShownEntry, Plain, Decrypted, Encoded}
 use Rattle.volume.specs.Lookup.{key_present, inode_at, entry_at, Used, slot_at}
 use Rattle.volume.specs.DirectoryNames.{read_name, shown_name, form_in}
-use Rattle.volume.specs.Step.{lent, check, effect, step}
+use Rattle.volume.specs.Step.{check, effect, step}
 use Rattle.volume.specs.Run.{Moment, run}
 use Rattle.volume.specs.Sound.{Sound}
 use Rattle.volume.specs.Bytewise.{Bytewise}

@@ -10,7 +10,7 @@ use lib.ListN.{length, get_or, set}
 use lib.Seq.{get_or-set_other}
 use lib.Dec.{eqb, leb}
 use borrow.Author.Tests.{eqb-false, leb-true, le-leb}
-use Rattle.lists.specs.Bytes.{Bytes, same}
+use Rattle.lists.specs.Bytes.{Bytes}
 use Rattle.lists.proofs.Tests.{and_left, and_right, and_known, same_of_eq}
 use Rattle.lists.proofs.Slots.{by_test, by_cond, within, search_none}
 use Rattle.errno.specs.declared.Checked.TheVariants.{Fine}

@@ -1,6 +1,6 @@
 -- The two runs: get policy, find, seal and open, which leave the volume as it was. Their checks read neither key bytes nor ciphertext but through lookups that
 -- TwinLookup has; a block has as many bytes as before, and its bytes may differ. Assumes nothing.
-use Prim.Native.Nat.{ℕ, ◌-◌}
+use Prim.Native.Nat.{ℕ}
 use mathlib.Core.Path.{refl, ap}
 use lib.Dec.{leb}
 use Rattle.lists.specs.Bytes.{Bytes, ByteList, zeros}

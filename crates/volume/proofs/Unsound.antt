@@ -9,7 +9,7 @@ use mathlib.Core.List.{[], ◌∷◌, ◌++◌}
 use lib.ListN.{get_or, replicate, set}
 use lib.Dec.{leb}
 use borrow.Author.Tests.{leb-false}
-use Rattle.lists.specs.Bytes.{Bytes, zeros, first_at, same}
+use Rattle.lists.specs.Bytes.{Bytes, zeros, first_at}
 use Rattle.lists.proofs.Tests.{if_true, if_false}
 use Rattle.lists.proofs.Slots.{by_test}
 use Rattle.policy.specs.Policies.{no_policy}

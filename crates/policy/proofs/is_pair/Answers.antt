@@ -5,8 +5,8 @@ use Rattle.policy.proofs.is_pair.Goals as goal
 
 pub returns-then-contents-eq1 : goal.returns-then-contents-eq1
 unfolding is_pair
-returns-then-contents-eq1 c =  search predicates depth 12
+returns-then-contents-eq1 c = search predicates depth 12
 
 pub returns-else-contents-eq1 : goal.returns-else-contents-eq1
 unfolding is_pair
-returns-else-contents-eq1 c =  search predicates depth 12
+returns-else-contents-eq1 c = search predicates depth 12

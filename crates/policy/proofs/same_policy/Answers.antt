@@ -23,16 +23,16 @@ returns c =
 
 pub returns-then-a-b : goal.returns-then-a-b
 unfolding same_policy
-returns-then-a-b c =  search predicates depth 12
+returns-then-a-b c = search predicates depth 12
 
 pub returns-then-a-b-2 : goal.returns-then-a-b-2
 unfolding same_policy
-returns-then-a-b-2 c =  search predicates depth 12
+returns-then-a-b-2 c = search predicates depth 12
 
 pub returns-then-a-b-3 : goal.returns-then-a-b-3
 unfolding same_policy
-returns-then-a-b-3 c =  search predicates depth 12
+returns-then-a-b-3 c = search predicates depth 12
 
 pub returns-then-a-b-4 : goal.returns-then-a-b-4
 unfolding same_policy
-returns-then-a-b-4 c =  search predicates depth 12
+returns-then-a-b-4 c = search predicates depth 12

@@ -1,6 +1,5 @@
 use Rattle.aes.specs.KeyExpansion.{expanded}
 use Rattle.aes.proofs.Schedule.{expand_turn, expand_end}
-use Prim.Native.Nat.{◌-◌}
 use native.Mathlib.Omega.{arith}
 use mathlib.Core.Path.{refl}
 use Rattle.aes.proofs.key_expansion.key_expansion.Goals as goal

@@ -1,6 +1,5 @@
 use Rattle.aes.specs.KeyExpansion.{x_power}
 use Rattle.aes.proofs.Schedule.{x_power_next}
-use Prim.Native.Nat.{◌-◌}
 use native.Mathlib.Omega.{arith}
 use mathlib.Core.Path.{◌≡◌, refl}
 use Rattle.aes.proofs.key_expansion.x_power.Goals as goal

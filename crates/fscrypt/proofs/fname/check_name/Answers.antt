@@ -6,16 +6,16 @@ use Rattle.fscrypt.proofs.fname.check_name.Goals as goal
 
 pub returns-then-name-eq0 : goal.returns-then-name-eq0
 unfolding name_check
-returns-then-name-eq0 c =  search (predicates, stop, skip) depth 25
+returns-then-name-eq0 c = search (predicates, stop, skip) depth 25
 
 pub returns-then-name-gt255 : goal.returns-then-name-gt255
 unfolding name_check
-returns-then-name-gt255 c =  search (predicates, stop, skip) depth 25
+returns-then-name-gt255 c = search (predicates, stop, skip) depth 25
 
 pub returns-then-is_bad_name : goal.returns-then-is_bad_name
 unfolding name_check
-returns-then-is_bad_name c =  search (predicates, stop, skip) depth 25
+returns-then-is_bad_name c = search (predicates, stop, skip) depth 25
 
 pub returns : goal.returns
 unfolding name_check
-returns c =  search (predicates, skip) depth 25
+returns c = search (predicates, skip) depth 25

@@ -1,9 +1,7 @@
 use mathlib.Core.Path.{sym, ◌∙◌}
-use Prim.Native.Nat.{◌-◌}
 use native.Mathlib.Omega.{arith}
 use borrow.Author.Rules.{rules}
 use Rattle.lists.proofs.Loops.{hit, miss, scanned_none, scanned_all}
-use Rattle.fscrypt.specs.Names.{is_nul_or_slash}
 use Rattle.fscrypt.proofs.fname.first_nul_or_slash.Goals as goal
 
 pub loop-i-init : goal.loop-i-init

@@ -1,6 +1,5 @@
-use Prim.Native.Nat.{◌-◌}
 use native.Mathlib.Omega.{arith}
-use Rattle.volume.specs.Lookup.{is_in, first_child}
+use Rattle.volume.specs.Lookup.{first_child}
 use Rattle.lookup.proofs.Search.{begun, found, passed, ended}
 use Rattle.lookup.proofs.Shape.{shaped}
 use Rattle.lookup.proofs.entries.first_child.Goals as goal

@@ -1,6 +1,5 @@
-use Prim.Native.Nat.{◌-◌}
 use native.Mathlib.Omega.{arith}
-use Rattle.volume.specs.Lookup.{is_link, first_link}
+use Rattle.volume.specs.Lookup.{first_link}
 use Rattle.lookup.proofs.Search.{begun, found, passed, ended}
 use borrow.Author.Rules.{rules}
 use Rattle.lookup.proofs.entries.first_link.Goals as goal

@@ -1,6 +1,5 @@
-use Prim.Native.Nat.{◌-◌}
 use native.Mathlib.Omega.{arith}
-use Rattle.volume.specs.Lookup.{is_vacant, free_entry}
+use Rattle.volume.specs.Lookup.{free_entry}
 use Rattle.lookup.proofs.Search.{begun, found, passed, ended}
 use Rattle.lookup.proofs.Shape.{shaped}
 use Rattle.lookup.proofs.entries.free_entry.Goals as goal

@@ -1,4 +1,3 @@
-use Prim.Native.Nat.{◌-◌}
 use native.Mathlib.Omega.{arith}
 use Rattle.volume.specs.Lookup.{free_inode}
 use Rattle.lookup.proofs.Search.{begun, found, passed, ended}

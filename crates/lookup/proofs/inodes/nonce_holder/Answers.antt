@@ -1,6 +1,5 @@
-use Prim.Native.Nat.{◌-◌}
 use native.Mathlib.Omega.{arith}
-use Rattle.volume.specs.Lookup.{bears_nonce, nonce_holder}
+use Rattle.volume.specs.Lookup.{nonce_holder}
 use Rattle.lookup.proofs.Search.{begun, found, passed, ended}
 use Rattle.lookup.proofs.Shape.{shaped}
 use Rattle.lookup.proofs.inodes.nonce_holder.Goals as goal

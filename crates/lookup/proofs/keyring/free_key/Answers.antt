@@ -1,6 +1,5 @@
-use Prim.Native.Nat.{◌-◌}
 use native.Mathlib.Omega.{arith}
-use Rattle.volume.specs.Lookup.{is_free_key, free_key_slot}
+use Rattle.volume.specs.Lookup.{free_key_slot}
 use Rattle.lookup.proofs.Search.{begun, found, passed, ended}
 use Rattle.lookup.proofs.Shape.{shaped}
 use Rattle.lookup.proofs.keyring.free_key.Goals as goal

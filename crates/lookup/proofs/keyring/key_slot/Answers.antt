@@ -1,6 +1,5 @@
-use Prim.Native.Nat.{◌-◌}
 use native.Mathlib.Omega.{arith}
-use Rattle.volume.specs.Lookup.{on_keyring, key_slot_of}
+use Rattle.volume.specs.Lookup.{key_slot_of}
 use Rattle.lookup.proofs.Search.{begun, found, passed, ended}
 use Rattle.lookup.proofs.Shape.{shaped}
 use Rattle.lookup.proofs.keyring.key_slot.Goals as goal

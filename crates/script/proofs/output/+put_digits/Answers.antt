@@ -20,4 +20,4 @@ put_byte-requires-2 t c = omega (arith, c.put_digits-next.ensures.0, last_length
 pub returns : goal.returns
 returns t c =
     rw (last_more _ _ c.if-k-eq0.false c.if-n-lt10.false)
-      (then_sets _ _ (last_digits (c.args.k - 1) (c.args.n / 10)) ((48 + c.args.n % 10) ∷ []) c.put_digits-next.ensures c.put_byte-2.ensures)
+    (then_sets _ _ (last_digits (c.args.k - 1) (c.args.n / 10)) ((48 + c.args.n % 10) ∷ []) c.put_digits-next.ensures c.put_byte-2.ensures)

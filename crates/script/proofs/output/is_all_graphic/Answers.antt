@@ -1,9 +1,8 @@
-use Prim.Native.Nat.{◌-◌}
 use native.Mathlib.Omega.{arith}
 use mathlib.Core.Path.{sym, ◌∙◌, ap}
 use Rattle.lists.proofs.Loops.{miss, scanned_none, all_stop, all_pass}
 use mathlib.Core.Bool.{not}
-use Rattle.script.specs.Strings.{is_graphic, is_all_graphic}
+use Rattle.script.specs.Strings.{is_all_graphic}
 use borrow.Author.Rules.{rules}
 use Rattle.script.proofs.output.is_all_graphic.Goals as goal
 

@@ -1,5 +1,5 @@
 use Rattle.lists.specs.Bytes.{hex_digit}
-use Prim.Native.Nat.{◌<◌, ◌/◌, ◌%◌, ℕ, ◌+◌, ◌*◌, ◌≤◌, ◌-◌}
+use Prim.Native.Nat.{◌<◌, ◌/◌, ◌%◌, ℕ, ◌+◌, ◌*◌, ◌≤◌}
 use mathlib.Core.List.{◌++◌, List, ◌∷◌, []}
 use lib.ListN.{get_or, length-set, length-take, set, length, take}
 use Rattle.script.specs.Strings.{to_hex}

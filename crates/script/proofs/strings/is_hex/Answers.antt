@@ -1,9 +1,8 @@
-use Prim.Native.Nat.{◌-◌}
 use native.Mathlib.Omega.{arith}
 use mathlib.Core.Path.{sym, ◌∙◌, ap}
 use Rattle.lists.proofs.Loops.{miss, scanned_none, all_stop, all_pass}
 use mathlib.Core.Bool.{not}
-use Rattle.script.specs.Strings.{is_hex_digit, is_hex}
+use Rattle.script.specs.Strings.{is_hex}
 use borrow.Author.Rules.{rules}
 use Rattle.script.proofs.strings.is_hex.Goals as goal
 

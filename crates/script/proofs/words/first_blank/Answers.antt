@@ -1,8 +1,6 @@
-use Prim.Native.Nat.{◌-◌}
 use native.Mathlib.Omega.{arith}
 use mathlib.Core.Path.{sym, ◌∙◌}
 use Rattle.lists.proofs.Loops.{hit, miss, scanned_none, scanned_all}
-use Rattle.script.specs.Words.{is_blank}
 use borrow.Author.Rules.{rules}
 use Rattle.script.proofs.words.first_blank.Goals as goal
 
