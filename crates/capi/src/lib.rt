@@ -5,6 +5,8 @@
 //
 // Nothing checks a declaration in C or Rust against this file, nor a call: each address, which is not null, must have so many bytes behind it, key and
 // buffer must not overlap, and nobody else may write them during the call.
+#![tactic(auto)]
+
 ghost use Rattle.std.specs.Prelude.{◌≡◌};
 ghost use Rattle.ciphers.specs.Entries.{outcome, cts_encrypt, cts_decrypt, xts_encrypt, xts_decrypt, ecb_encrypt};
 

@@ -12,8 +12,8 @@ use volume::{Reply, Volume};
 
 // A block of a file's contents, in place: by the contents mode of the file's own policy, under its own derived key.
 pub fn seal(v: Volume, i: InodeNumber, number: u64, block: &mut [u8])
-    requires i_value { lacks_key v (inode_at v i) ≡ false }
-    requires i_value_2 { (inode_at v i).encrypted ≡ true }
+    requires key_held { lacks_key v (inode_at v i) ≡ false }
+    requires is_encrypted { (inode_at v i).encrypted ≡ true }
     ensures { outcome (replied Reply.Done) block.new v ≡ effect fscrypt v (seal i number block.old) }
 {
     let node = inodes::inode_at(v, i);
@@ -26,8 +26,8 @@ pub fn seal(v: Volume, i: InodeNumber, number: u64, block: &mut [u8])
 }
 
 pub fn open(v: Volume, i: InodeNumber, number: u64, block: &mut [u8])
-    requires i_value { lacks_key v (inode_at v i) ≡ false }
-    requires i_value_2 { (inode_at v i).encrypted ≡ true }
+    requires key_held { lacks_key v (inode_at v i) ≡ false }
+    requires is_encrypted { (inode_at v i).encrypted ≡ true }
     ensures { outcome (replied Reply.Done) block.new v ≡ effect fscrypt v (unseal i number block.old) }
 {
     let node = inodes::inode_at(v, i);

@@ -47,8 +47,8 @@ fn new_entry(p: InodeNumber, i: InodeNumber, n: Name) -> Entry
 
 // An entry of this directory with this name, as the directory stores it.
 fn stored_entry(v: Volume, p: InodeNumber, i: InodeNumber, name: &[u8]) -> Entry
-    requires name_len_bound { length name.now ≤ 255 }
-    requires p_value { lacks_key v (inode_at v p) ≡ false }
+    requires name_fits { length name.now ≤ 255 }
+    requires key_held { lacks_key v (inode_at v p) ≡ false }
     ensures { result ≡ entry_slot p i (stored fscrypt v (inode_at v p) name.now) }
 {
     let dir = inodes::inode_at(v, p);
@@ -57,11 +57,11 @@ fn stored_entry(v: Volume, p: InodeNumber, i: InodeNumber, name: &[u8]) -> Entry
 }
 
 pub fn create(v: Volume, p: InodeNumber, kind: u64, name: &[u8], x: [u8; 16]) -> CreateOutcome
-    requires name_len_bound { length name.now ≤ 255 }
-    requires p_value { lacks_key v (inode_at v p) ≡ false }
-    requires kind_bound { kind ≤ 4 }
-    requires v_bound { free_inode v < inode_slots }
-    requires v_bound_2 { free_entry v < entry_slots }
+    requires name_fits { length name.now ≤ 255 }
+    requires key_held { lacks_key v (inode_at v p) ≡ false }
+    requires kind_known { kind ≤ 4 }
+    requires inode_free { free_inode v < inode_slots }
+    requires entry_free { free_entry v < entry_slots }
     ensures { outcome (create_answered result.answer) [] result.volume ≡ effect fscrypt v (create p kind name.now x) }
 {
     let i = inodes::free_inode(v);
@@ -77,9 +77,9 @@ pub fn create(v: Volume, p: InodeNumber, kind: u64, name: &[u8], x: [u8; 16]) ->
 }
 
 pub fn link(v: Volume, i: InodeNumber, p: InodeNumber, name: &[u8]) -> LinkOutcome
-    requires name_len_bound { length name.now ≤ 255 }
-    requires p_value { lacks_key v (inode_at v p) ≡ false }
-    requires v_bound { free_entry v < entry_slots }
+    requires name_fits { length name.now ≤ 255 }
+    requires key_held { lacks_key v (inode_at v p) ≡ false }
+    requires entry_free { free_entry v < entry_slots }
     ensures { outcome (entry_answered result.answer) [] result.volume ≡ effect fscrypt v (link i p name.now) }
 {
     let k = entries::free_entry(v);
@@ -92,8 +92,8 @@ pub fn link(v: Volume, i: InodeNumber, p: InodeNumber, name: &[u8]) -> LinkOutco
 }
 
 pub fn rename(v: Volume, n: EntryNumber, p: InodeNumber, name: &[u8]) -> Changed
-    requires name_len_bound { length name.now ≤ 255 }
-    requires p_value { lacks_key v (inode_at v p) ≡ false }
+    requires name_fits { length name.now ≤ 255 }
+    requires key_held { lacks_key v (inode_at v p) ≡ false }
     ensures { outcome (replied result.answer) [] result.volume ≡ effect fscrypt v (rename n p name.now) }
 {
     let old = entries::entry_at(v, n);
@@ -159,8 +159,8 @@ pub fn remove(v: Volume, n: EntryNumber) -> Changed
 }
 
 pub fn find(v: Volume, p: InodeNumber, name: &[u8]) -> EntryAnswer
-    requires name_len_bound { length name.now ≤ 255 }
-    requires p_value { lacks_key v (inode_at v p) ≡ false }
+    requires name_fits { length name.now ≤ 255 }
+    requires key_held { lacks_key v (inode_at v p) ≡ false }
     ensures { outcome (entry_answered result) [] v ≡ effect fscrypt v (find p name.now) }
 {
     let n = names::entry_of(v, p, name);

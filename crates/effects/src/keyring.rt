@@ -25,8 +25,8 @@ fn new_key(d: [u8; 8], key: &[u8]) -> Key
 }
 
 pub fn add_key(v: Volume, d: [u8; 8], key: &[u8]) -> Changed
-    requires key_len_bound { length key.now ≤ 64 }
-    requires v_bound { free_key_slot v < key_slots }
+    requires key_fits { length key.now ≤ 64 }
+    requires slot_free { free_key_slot v < key_slots }
     ensures { outcome (replied result.answer) key.now result.volume ≡ effect fscrypt v (add_key d key.now) }
 {
     let i = keyring::free_key(v);

@@ -1,5 +1,7 @@
 // The fscrypt rules over the ciphers. As in Linux's fs/crypto: derived keys (keysetup), contents (crypto), and names as they are stored and read (fname). And
 // stored names as they are shown without their key (encode). The crates above call these once their own checks have passed, so some have a `requires`.
+#![tactic(auto)]
+
 pub mod crypto;
 pub mod encode;
 pub mod fname;

@@ -1,5 +1,7 @@
 // A user of the ciphers alone, as document 01's label printer is: each function encrypts in the lent buffer and decrypts again, or the other way round. Their proofs
 // rest on what the entries of ciphers promise and on the laws in its proofs/Laws.antt; no definition of a cipher is opened.
+#![tactic(auto)]
+
 ghost use Rattle.std.specs.Prelude.{◌≡◌};
 ghost use Rattle.ciphers.specs.Entries.{outcome, cts_encrypt, cts_decrypt, xts_encrypt};
 

@@ -1,5 +1,7 @@
 // A line of a request script, and its answer: its text and the volume after it are what specs/Lines.antt says. `answer_line` takes any line and any buffers:
 // it asks nothing of its caller. The texts of answers are in answers.rt, and each request has its function in calls.rt.
+#![tactic(auto)]
+
 mod answers;
 mod calls;
 
@@ -109,7 +111,7 @@ fn clear(b: &mut [u8])
 fn reply_and_clear(v: Volume, line: &[u8], payload: &mut [u8], out: &mut [u8]) -> Response
     requires { (length line.now ≤ length payload.old) × (1000 + 2 * length payload.old ≤ length out.old) }
     ensures replies { Replies out.old out.new result (answered v line.now) }
-    ensures payload_after { payload.new ≡ zeros (length payload.old) }
+    ensures cleared { payload.new ≡ zeros (length payload.old) }
 {
     let said = reply(v, line, payload, out);
     clear(payload);
@@ -132,8 +134,8 @@ fn has_room(line: &[u8], payload: &[u8], out: &[u8]) -> bool
 // A line, and any buffers. `payload` is room for the bytes of a KEY, POLICY, NAME or BLOCK: as many as the line has, and they are zeros afterwards. `out` is
 // room for the answer: 1,000 bytes, and two for each byte of the line; the answer stands at its start. Where either buffer is too small, nothing is done.
 pub fn answer_line(v: Volume, line: &[u8], payload: &mut [u8], out: &mut [u8]) -> LineAnswer
-    ensures out_after { line_outcome result payload.new out.new ≡ answered_in v line.now payload.old out.old }
-    ensures prefix_len { (result.len ≤ length out.new) × (result.len ≡ length (take result.len out.new)) }
+    ensures outcome { line_outcome result payload.new out.new ≡ answered_in v line.now payload.old out.old }
+    ensures within { (result.len ≤ length out.new) × (result.len ≡ length (take result.len out.new)) }
 {
     if !has_room(line, payload, out) {
         return LineAnswer {

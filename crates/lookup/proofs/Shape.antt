@@ -20,10 +20,10 @@ pub record Shaped (v : Volume) : Type 0 where
 pub shaped : (v : Volume) {vs : List Val} → Is volume-row v vs → Shaped v
 shaped v g =
     record {
-      keys = simp length-map at g.1.1.0.1.0.1;
-      inodes = simp length-map at g.1.1.1.0.1.0.1;
-      entries = simp length-map at g.1.1.1.1.0.1.0.1;
+      keys = g.1.1.0.1.0.1;
+      inodes = g.1.1.1.0.1.0.1;
+      entries = g.1.1.1.1.0.1.0.1;
     }
 
 pub entry_sized : (e : Entry) {vs : List Val} → Is entry_row e vs → Sized e.len e.name
-entry_sized e g = record { len = g.1.1.0.1; bytes = simp length-map at g.1.1.1.1.1.0.1.0.1 }
+entry_sized e g = record { len = g.1.1.0.1; bytes = g.1.1.1.1.1.0.1.0.1 }

@@ -1,4 +1,6 @@
 // Names in the directories of a volume: as they are stored, and as they are shown.
+#![tactic(auto)]
+
 ghost use Rattle.std.specs.Prelude.{◌≡◌, true, false, ◌≤◌, length};
 ghost use Rattle.fscrypt.specs.Cipher.{fscrypt};
 ghost use Rattle.fscrypt.specs.Names.{packed};
@@ -35,8 +37,8 @@ pub fn derived_key(v: Volume, n: Inode) -> DerivedKey
 
 // A plain name as this directory stores it.
 pub fn stored_name(v: Volume, dir: Inode, name: &[u8]) -> Name
-    requires name_len_bound { length name.now ≤ 255 }
-    requires dir_value { lacks_key v dir ≡ false }
+    requires name_fits { length name.now ≤ 255 }
+    requires key_held { lacks_key v dir ≡ false }
     ensures { result ≡ packed (stored fscrypt v dir name.now) }
 {
     if !dir.encrypted {
@@ -52,8 +54,8 @@ pub fn stored_name(v: Volume, dir: Inode, name: &[u8]) -> Name
 
 // The entry that bears this name in the directory, or the number of slots.
 pub fn entry_of(v: Volume, p: InodeNumber, name: &[u8]) -> EntryNumber
-    requires name_len_bound { length name.now ≤ 255 }
-    requires p_value { lacks_key v (inode_at v p) ≡ false }
+    requires name_fits { length name.now ≤ 255 }
+    requires key_held { lacks_key v (inode_at v p) ≡ false }
     ensures { result.0 ≡ entry_named v p (stored fscrypt v (inode_at v p) name.now) }
 {
     let dir = lookup::inodes::inode_at(v, p);

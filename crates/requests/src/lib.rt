@@ -1,5 +1,7 @@
 // The thirteen requests on a volume: check, then act. No function asks anything of its caller: any volume value, any numbers, any slices. Each contract
 // equates the whole outcome, refusals included, with `step fscrypt` of volume/specs/Step.antt: the answer, every byte of the volume and of the lent buffer.
+#![tactic(auto)]
+
 pub mod claims;
 
 ghost use Rattle.std.specs.Prelude.{◌≡◌, []};

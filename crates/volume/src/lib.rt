@@ -1,4 +1,6 @@
 // The types of a volume (document 01's shelf) and of the answers. What each request does is said in specs/.
+#![tactic(auto)]
+
 use errno::Errno;
 use ids::{EntryNumber, InodeNumber};
 use policy::Context;

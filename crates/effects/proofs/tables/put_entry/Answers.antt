@@ -1,0 +1,10 @@
+-- `put_entry`: a store past the end of the table changes nothing. Assumes nothing.
+use native.Mathlib.Omega.{arith}
+use Rattle.lookup.proofs.Shape.{shaped}
+use Rattle.effects.proofs.Acting.{entry_past}
+use Rattle.effects.proofs.tables.put_entry.Goals as goal
+
+pub returns : goal.returns
+returns c =
+    let k = (shaped c.args.v c.well_formed.0).entries in
+    entry_past _ _ _ (omega arith)

@@ -1,0 +1,12 @@
+-- `text_again`: by the law that ctsEncrypt undoes ctsDecrypt, and by what the two entries ensure. Assumes nothing.
+use Rattle.ciphers.specs.Entries.{cts_decrypt, cts_encrypt}
+use Rattle.ciphers.proofs.Laws.{buffer_left, cts_encrypt_cts_decrypt}
+use Rattle.label_printer.proofs.Back.{back}
+use Rattle.label_printer.proofs.text_again.Goals as goal
+
+pub returns : goal.returns
+returns c =
+    let s = c.args in
+    back (cts_decrypt s.key.now s.text.now) (cts_encrypt s.key.now) _ _ _ _
+    (cts_encrypt_cts_decrypt s.key.now s.text.now (λ i. (c.shared_slice_known-1.given i).fits) (λ i. (c.slice_known-1.given i).fits))
+    (buffer_left _ _ _ c.cts_decrypt.ensures) c.cts_encrypt.ensures

@@ -1,0 +1,10 @@
+-- `link`: the request, and its answer. Assumes nothing.
+use mathlib.Core.Path.{refl}
+use Rattle.lines.specs.Lines.{respond}
+use Rattle.lines.proofs.calls.link.Goals as goal
+
+pub returns : goal.returns
+unfolding respond
+returns c =
+    let request = c.link-o in
+    rw (← request.ensures) (refl, c.put_entry.ensures)

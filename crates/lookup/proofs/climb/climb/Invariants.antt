@@ -1,0 +1,13 @@
+-- `climb` is `climb_from`. The loop's invariant: the climb from the start is the climb from here with the steps that are left.
+-- The measure is the steps that are left. Assumes nothing.
+use mathlib.Core.Path.{◌≡◌}
+use Prim.Native.Nat.{◌≤◌}
+use Rattle.volume.specs.Volume.{inode_slots}
+use Rattle.volume.specs.Lookup.{climb_from}
+use Rattle.lookup.proofs.climb.climb.Given as goal
+
+abbrev pub invariant-loop-at : goal.invariant-loop-at
+invariant-loop-at l = (l.left ≤ inode_slots) × (climb_from l.v l.moved inode_slots l.initial.at ≡ climb_from l.v l.moved l.left l.at)
+
+abbrev pub decreases-loop-at : goal.decreases-loop-at
+decreases-loop-at l = l.left

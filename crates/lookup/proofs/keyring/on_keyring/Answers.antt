@@ -1,0 +1,9 @@
+-- `on_keyring` is `on_keyring`: the first test that fails ends it. Assumes nothing.
+use Rattle.lists.proofs.Predicates.{predicates}
+use Rattle.lookup.proofs.keyring.on_keyring.Goals as goal
+
+pub returns-then-k-eq0 : goal.returns-then-k-eq0
+returns-then-k-eq0 c = search predicates depth 12
+
+pub returns : goal.returns
+returns c = search predicates depth 12

@@ -1,0 +1,13 @@
+-- `set_policy`: refused as its check says, or done as its effect says. Assumes nothing.
+use Rattle.fscrypt.specs.Cipher.{fscrypt}
+use Rattle.volume.specs.Step.{lent, check}
+use Rattle.requests.proofs.Settling.{refuses, acts}
+use Rattle.requests.proofs.set_policy.Goals as goal
+
+pub returns-in-Refused : goal.returns-in-Refused
+unfolding check lent
+returns-in-Refused c = refuses fscrypt _ _ _ c.set_policy_check.ensures _ c.in-Refused.is
+
+pub returns-in-Fine : goal.returns-in-Fine
+unfolding check
+returns-in-Fine c = acts fscrypt _ _ _ c.set_policy_check.ensures _ c.in-Fine.is c.set_policy.ensures
