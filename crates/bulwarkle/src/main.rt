@@ -1,6 +1,6 @@
 // Reads a request script from standard input, runs it on a fresh volume, and writes an answer for each request to standard output, at once.
-use libc::STDIN_FILENO;
+#![tactic(auto)]
 
-fn main() {
-    session::run(STDIN_FILENO);
+fn main(rt: HostRuntime) {
+    session::run(&mut rt.stdin(), &mut rt.stdout());
 }

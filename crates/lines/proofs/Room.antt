@@ -15,7 +15,6 @@ use Rattle.lists.proofs.ByteStrings.{length_zeros, append_zeros, count_take}
 use Rattle.lists.proofs.Copies.{sets_more, copied_whole}
 use Rattle.lists.proofs.Predicates.{and_no_left, and_no_right, and_yes}
 use Rattle.lists.proofs.Tests.{and_left, and_right, bool_ext}
-use Rattle.io.specs.Counts.{IsPrefixLen}
 use Rattle.volume.specs.declared.Volume.{Volume}
 use Rattle.lines.specs.Lines.{answered, HasRoom, has_room, LineOutcome, line_outcome, room_outcome, no_room_outcome, answered_in}
 use Rattle.lines.specs.declared.LineAnswer.{LineAnswer}
@@ -87,7 +86,7 @@ module _ (v : Volume) (line payload out : Bytes) where
       )
 
 -- the answer's bytes, as a part of the output buffer
-pub counted : (n : ℕ) (b : Bytes) → n ≤ length b → IsPrefixLen n b
+pub counted : (n : ℕ) (b : Bytes) → n ≤ length b → (n ≤ length b) × (n ≡ length (take n b))
 counted n b h = (h, count_take n b h)
 
 -- ---- zeros

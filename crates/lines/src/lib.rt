@@ -6,7 +6,6 @@ mod answers;
 mod calls;
 
 ghost use Rattle.std.specs.Prelude.{◌≡◌, ◌+◌, ◌*◌, ◌≤◌, length, take};
-ghost use Rattle.io.specs.Counts.{IsPrefixLen};
 ghost use Rattle.lists.specs.Bytes.{zeros};
 ghost use Rattle.lines.specs.Evidence.{Evidence};
 ghost use Rattle.lines.specs.Lines.{without_return, is_skipped, directed, commanded, answered, Responds, Replies, has_room, line_outcome, answered_in};
@@ -136,7 +135,7 @@ fn has_room(line: &[u8], payload: &[u8], out: &[u8]) -> bool
 // room for the answer: 1,000 bytes, and two for each byte of the line; the answer stands at its start. Where either buffer is too small, nothing is done.
 pub fn answer_line(v: Volume, line: &[u8], payload: &mut [u8], out: &mut [u8]) -> LineAnswer
     ensures outcome { line_outcome result payload.new out.new ≡ answered_in v line.now payload.old out.old }
-    ensures within { IsPrefixLen result.len out.new }
+    ensures within { (result.len ≤ length out.new) × (result.len ≡ length (take result.len out.new)) }
 {
     if !has_room(line, payload, out) {
         return LineAnswer {

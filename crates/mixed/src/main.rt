@@ -1,6 +1,7 @@
 // Runs 100,000 mixed requests on one volume, in an encrypted directory whose key is held, and prints how many were done. bench/requests times it.
+#![tactic(auto)]
+
 use ids::{EntryNumber, InodeNumber};
-use libc::STDOUT_FILENO;
 use volume::{Changed, CreateAnswer, EntryAnswer, Reply, ShowAnswer, Volume};
 
 // The volume, and 1 where the request was done.
@@ -134,7 +135,7 @@ fn counted(done: u64, more: u64) -> u64 {
     done
 }
 
-fn main() {
+fn main(rt: HostRuntime) {
     let mut v = begin();
     let mut done: u64 = 0;
     let mut i: u64 = 0;
@@ -145,6 +146,5 @@ fn main() {
         done = counted(done, look(v, 2 * i + 1));
         i += 1;
     }
-    io::print_decimal(STDOUT_FILENO, done);
-    io::write_all(STDOUT_FILENO, b" done of 100000\n");
+    let _ = println!(rt; "{done} done of 100000");
 }

@@ -1,32 +1,51 @@
 // Runs each script that an argument names, on a fresh volume of its own, as the program bulwarkle would; the script's name comes before its answers.
-use libc::STDOUT_FILENO;
+#![tactic(auto)]
+
+use std::env::FillError;
+use std::fs::File;
+use std::io::ErrorKind;
+use std::rt::Env;
+use std::{fs, io, str};
+
+// Room for an argument: a path has at most 4,095 bytes. A longer argument names no script, as an empty one.
+const PATH_ROOM: usize = 4096;
+
+// Opens a script. std names a file by text, so a path that is no UTF-8 opens none.
+fn open(rt: &HostRuntime, path: &[u8]) -> io::Result<File> {
+    match str::from_utf8(path) {
+        Ok(text) => fs::open(rt, text),
+        Err(_) => Err(io::Error::from(ErrorKind::InvalidFilename)),
+    }
+}
+
+// Writes to standard error which script could not be opened, and why.
+fn fail(rt: &HostRuntime, path: &[u8], why: io::Error) {
+    let err = rt.stderr();
+    let _ = err.write_all(path);
+    let _ = println!(err; ": {why}");
+}
 
 // Opens a script and runs it.
-fn replay(path: &[u8]) {
-    let fd = os::open_read(path);
-    if fd < 0 {
-        os::fail(path);
-        return;
+fn replay(rt: &HostRuntime, path: &[u8]) {
+    match open(rt, path) {
+        Ok(mut file) => {
+            let mut out = rt.stdout();
+            let _ = out.write_all(b"# ");
+            let _ = out.write_all(path);
+            let _ = out.write_all(b"\n");
+            session::run(&mut file, &mut out);
+        }
+        Err(why) => fail(rt, path, why),
     }
-    io::write_all(STDOUT_FILENO, b"# ");
-    io::write_all(STDOUT_FILENO, path);
-    io::write_all(STDOUT_FILENO, b"\n");
-    session::run(fd);
-    libc::close(fd);
 }
 
-// The script with this number among the arguments.
-fn replay_argument(i: usize) {
-    let mut path = io::buffer();
-    let n = os::arg(i, &mut path);
-    replay(&path[..n]);
-}
-
-fn main() {
-    let count = os::arg_count();
-    let mut i: usize = 1;
-    while i < count {
-        replay_argument(i);
-        i += 1;
+fn main(rt: HostRuntime) {
+    let mut path = [0u8; PATH_ROOM];
+    for i in 1..usize::MAX {
+        match rt.arg(i, &mut path) {
+            Ok(n) => replay(&rt, &path[..n]),
+            Err(FillError::TooLong) => replay(&rt, b""),
+            Err(FillError::NotPresent) => return,
+        }
     }
 }

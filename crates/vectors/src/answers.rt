@@ -1,21 +1,21 @@
-// What is written to standard output.
+// What is written, to standard output. A write that fails is not noticed.
 ghost use Rattle.std.specs.Prelude.{◌≡◌, ◌≤◌, length};
 
 use crate::arguments::MOST_BYTES;
 use errno::{Checked, Errno};
-use libc::STDOUT_FILENO;
 use script::output;
+use std::io::Write;
 
 // Two digits for each byte.
 const MOST_DIGITS: usize = 2 * MOST_BYTES;
 
-pub fn malformed() {
-    io::write_all(STDOUT_FILENO, b"malformed\n");
+pub fn malformed(to: &mut impl Write) {
+    let _ = to.write_all(b"malformed\n");
 }
 
-pub fn echo(line: &[u8]) {
-    io::write_all(STDOUT_FILENO, line);
-    io::write_all(STDOUT_FILENO, b"\n");
+pub fn echo(to: &mut impl Write, line: &[u8]) {
+    let _ = to.write_all(line);
+    let _ = to.write_all(b"\n");
 }
 
 fn room() -> [u8; MOST_DIGITS]
@@ -25,50 +25,49 @@ fn room() -> [u8; MOST_DIGITS]
 }
 
 // A byte string in hex, `-` for none.
-fn write_bytes(b: &[u8])
+fn write_bytes(to: &mut impl Write, b: &[u8])
     requires { length b.now ≤ 4200 }
 {
     if b.len() == 0 {
-        io::write_all(STDOUT_FILENO, b"-");
+        let _ = to.write_all(b"-");
         return;
     }
     let mut text = room();
     let n = output::put_hex(&mut text, 0, b);
-    io::write_all(STDOUT_FILENO, &text[..n]);
+    let _ = to.write_all(&text[..n]);
 }
 
 // The errno, and the buffer after the call.
-pub fn after_call(errno: u8, buffer: &[u8])
+pub fn after_call(to: &mut impl Write, errno: u8, buffer: &[u8])
     requires { length buffer.now ≤ 4200 }
 {
-    io::print_decimal(STDOUT_FILENO, errno as u64);
-    io::write_all(STDOUT_FILENO, b" ");
-    write_bytes(buffer);
-    io::write_all(STDOUT_FILENO, b"\n");
+    let _ = write!(to, "{errno} ");
+    write_bytes(to, buffer);
+    let _ = to.write_all(b"\n");
 }
 
 // A refusal's number alone.
-pub fn refused(e: Errno) {
-    io::print_decimal(STDOUT_FILENO, errno::number_of(e) as u64);
-    io::write_all(STDOUT_FILENO, b"\n");
+pub fn refused(to: &mut impl Write, e: Errno) {
+    let number = errno::number_of(e);
+    let _ = writeln!(to, "{number}");
 }
 
-fn fine() {
-    io::write_all(STDOUT_FILENO, b"0\n");
+fn fine(to: &mut impl Write) {
+    let _ = to.write_all(b"0\n");
 }
 
 // What a check came to, with nothing more to say.
-pub fn after_check(checked: Checked) {
+pub fn after_check(to: &mut impl Write, checked: Checked) {
     match checked {
-        Checked::Fine => fine(),
-        Checked::Refused(e) => refused(e),
+        Checked::Fine => fine(to),
+        Checked::Refused(e) => refused(to, e),
     }
 }
 
-pub fn yes_or_no(yes: bool) {
+pub fn yes_or_no(to: &mut impl Write, yes: bool) {
     if yes {
-        io::write_all(STDOUT_FILENO, b"0 yes\n");
+        let _ = to.write_all(b"0 yes\n");
         return;
     }
-    io::write_all(STDOUT_FILENO, b"0 no\n");
+    let _ = to.write_all(b"0 no\n");
 }

@@ -1,6 +1,5 @@
 // The words of a request after its name, and the byte strings that they are.
-ghost use Rattle.std.specs.Prelude.{◌≡◌, length};
-ghost use Rattle.io.specs.Counts.{IsPrefixLen};
+ghost use Rattle.std.specs.Prelude.{◌≡◌, ◌≤◌, length, take};
 
 use script::{strings, words};
 
@@ -52,7 +51,7 @@ pub fn room() -> [u8; MOST_BYTES]
 
 // Lays the bytes that a word stands for over the start of out, and returns how many there are. Where out has no room for all, none are laid.
 pub fn decode(word: &[u8], out: &mut [u8]) -> usize
-    ensures { IsPrefixLen result out.new }
+    ensures { (result ≤ length out.new) × (result ≡ length (take result out.new)) }
 {
     let n = strings::byte_count(word);
     if out.len() < n {

@@ -24,6 +24,8 @@
 // of 65,536 bytes or more.
 //
 // The files stdin and stdout beside src/ hold the vectors and what they must give. tools/vectors.py makes both.
+#![tactic(auto)]
+
 mod answers;
 mod arguments;
 mod cipher_calls;
@@ -32,8 +34,13 @@ mod name_calls;
 mod policy_calls;
 mod requests;
 
-fn main() {
-    let mut line = io::large_buffer();
-    let mut chunk = io::buffer();
-    input::answer_all(&mut line, &mut chunk);
+// A line of 65,536 bytes or more fills it.
+const LINE_ROOM: usize = 65536;
+
+const CHUNK_ROOM: usize = 4096;
+
+fn main(rt: HostRuntime) {
+    let mut line = [0u8; LINE_ROOM];
+    let mut chunk = [0u8; CHUNK_ROOM];
+    input::answer_all(&mut rt.stdin(), &mut rt.stdout(), &mut line, &mut chunk);
 }

@@ -7,6 +7,7 @@ use fscrypt::{Name, NameRead, encode, fname, keysetup};
 use ids::EntryNumber;
 use policy::{Context, ContextRead};
 use script::{Number, numbers};
+use std::io::Write;
 
 #[derive(Clone, Copy)]
 pub enum NameCall {
@@ -16,26 +17,26 @@ pub enum NameCall {
     EncodeName,
 }
 
-pub fn answer(call: NameCall, args: &[u8]) {
+pub fn answer(to: &mut impl Write, call: NameCall, args: &[u8]) {
     match call {
-        NameCall::CheckName => on_check(args),
-        NameCall::StoreName => on_store(args),
-        NameCall::ReadName => on_read(args),
-        NameCall::EncodeName => on_encode(args),
+        NameCall::CheckName => on_check(to, args),
+        NameCall::StoreName => on_store(to, args),
+        NameCall::ReadName => on_read(to, args),
+        NameCall::EncodeName => on_encode(to, args),
     }
 }
 
 // check-name NAME
-fn on_check(args: &[u8]) {
+fn on_check(to: &mut impl Write, args: &[u8]) {
     let word = arguments::first(args);
     let extra = arguments::second(args);
     if !arguments::is_bytes(word) || !arguments::is_missing(extra) {
-        answers::malformed();
+        answers::malformed(to);
         return;
     }
     let mut name = arguments::room();
     let n = arguments::decode(word, &mut name);
-    answers::after_check(fname::check_name(&name[..n]));
+    answers::after_check(to, fname::check_name(&name[..n]));
 }
 
 // Whether a word spells a master key: 64 bytes.
@@ -62,14 +63,14 @@ fn stored_name(word: &[u8]) -> Name {
     fname::pack(&bytes[..n])
 }
 
-fn write_first(bytes: [u8; 255], count: u8) {
+fn write_first(to: &mut impl Write, bytes: [u8; 255], count: u8) {
     let n = count as usize;
-    answers::after_call(0, &bytes[0..n]);
+    answers::after_call(to, 0, &bytes[0..n]);
 }
 
-fn write_name(name: Name) {
+fn write_name(to: &mut impl Write, name: Name) {
     let bytes = name.bytes;
-    write_first(bytes, name.len);
+    write_first(to, bytes, name.len);
 }
 
 // The derived key of a directory.
@@ -81,37 +82,37 @@ fn key_of(context: Context, master: [u8; 64]) -> [u8; 64] {
 }
 
 // A name of at most 255 bytes, as the directory with this context stores it.
-fn store(context: Context, master: [u8; 64], name: &[u8])
+fn store(to: &mut impl Write, context: Context, master: [u8; 64], name: &[u8])
     requires { length name.now ≤ 255 }
 {
     let key = key_of(context, master);
     let p = context.policy;
     let size = policy::name_key_size(p);
-    write_name(fname::encrypt_name(&key[0..size], p.flags, name));
+    write_name(to, fname::encrypt_name(&key[0..size], p.flags, name));
 }
 
 // The same, or the refusal of a name that is not plain.
-fn store_plain(context: Context, master: [u8; 64], name: &[u8]) {
+fn store_plain(to: &mut impl Write, context: Context, master: [u8; 64], name: &[u8]) {
     let checked = fname::check_name(name);
     let Checked::Fine = checked else {
-        answers::after_check(checked);
+        answers::after_check(to, checked);
         return;
     };
-    store(context, master, name);
+    store(to, context, master, name);
 }
 
 // The same, or the refusal of the context.
-fn store_under(read: ContextRead, master: [u8; 64], name: &[u8]) {
+fn store_under(to: &mut impl Write, read: ContextRead, master: [u8; 64], name: &[u8]) {
     let checked = read.checked;
     let Checked::Fine = checked else {
-        answers::after_check(checked);
+        answers::after_check(to, checked);
         return;
     };
-    store_plain(read.context, master, name);
+    store_plain(to, read.context, master, name);
 }
 
 // store-name CONTEXT MASTERKEY NAME
-fn on_store(args: &[u8]) {
+fn on_store(to: &mut impl Write, args: &[u8]) {
     let context_word = arguments::first(args);
     let key_word = arguments::second(args);
     let name_word = arguments::third(args);
@@ -121,12 +122,13 @@ fn on_store(args: &[u8]) {
         || !arguments::is_bytes(name_word)
         || !arguments::is_missing(extra)
     {
-        answers::malformed();
+        answers::malformed(to);
         return;
     }
     let mut name = arguments::room();
     let n = arguments::decode(name_word, &mut name);
     store_under(
+        to,
         policy_calls::context_in(context_word),
         master_key(key_word),
         &name[..n],
@@ -134,31 +136,31 @@ fn on_store(args: &[u8]) {
 }
 
 // The name that was read, or EUCLEAN.
-fn write_read(read: NameRead) {
+fn write_read(to: &mut impl Write, read: NameRead) {
     let checked = read.checked;
     let Checked::Fine = checked else {
-        answers::after_check(checked);
+        answers::after_check(to, checked);
         return;
     };
-    write_name(read.name);
+    write_name(to, read.name);
 }
 
 // A stored name as the directory with this context reads it, or the refusal of the context.
-fn read_under(read: ContextRead, master: [u8; 64], stored: Name) {
+fn read_under(to: &mut impl Write, read: ContextRead, master: [u8; 64], stored: Name) {
     let checked = read.checked;
     let Checked::Fine = checked else {
-        answers::after_check(checked);
+        answers::after_check(to, checked);
         return;
     };
     let context = read.context;
     let key = key_of(context, master);
     let p = context.policy;
     let size = policy::name_key_size(p);
-    write_read(fname::decrypt_name(&key[0..size], p.flags, stored));
+    write_read(to, fname::decrypt_name(&key[0..size], p.flags, stored));
 }
 
 // read-name CONTEXT MASTERKEY STORED
-fn on_read(args: &[u8]) {
+fn on_read(to: &mut impl Write, args: &[u8]) {
     let context_word = arguments::first(args);
     let key_word = arguments::second(args);
     let stored_word = arguments::third(args);
@@ -168,10 +170,11 @@ fn on_read(args: &[u8]) {
         || !is_stored_name(stored_word)
         || !arguments::is_missing(extra)
     {
-        answers::malformed();
+        answers::malformed(to);
         return;
     }
     read_under(
+        to,
         policy_calls::context_in(context_word),
         master_key(key_word),
         stored_name(stored_word),
@@ -179,16 +182,19 @@ fn on_read(args: &[u8]) {
 }
 
 // encode-name NUMBER STORED
-fn on_encode(args: &[u8]) {
+fn on_encode(to: &mut impl Write, args: &[u8]) {
     let stored_word = arguments::second(args);
     let extra = arguments::third(args);
     let Number::Is(number) = numbers::number(arguments::first(args)) else {
-        answers::malformed();
+        answers::malformed(to);
         return;
     };
     if !is_stored_name(stored_word) || !arguments::is_missing(extra) {
-        answers::malformed();
+        answers::malformed(to);
         return;
     }
-    write_name(encode::encode_name(stored_name(stored_word), EntryNumber(number)));
+    write_name(
+        to,
+        encode::encode_name(stored_name(stored_word), EntryNumber(number)),
+    );
 }

@@ -2,6 +2,7 @@
 use crate::{answers, arguments};
 use errno::Checked;
 use policy::{ContextRead, PolicyRead};
+use std::io::Write;
 
 #[derive(Clone, Copy)]
 pub enum PolicyCall {
@@ -10,11 +11,11 @@ pub enum PolicyCall {
     ComparePolicies,
 }
 
-pub fn answer(call: PolicyCall, args: &[u8]) {
+pub fn answer(to: &mut impl Write, call: PolicyCall, args: &[u8]) {
     match call {
-        PolicyCall::ReadPolicy => on_policy(args),
-        PolicyCall::ReadContext => on_context(args),
-        PolicyCall::ComparePolicies => on_policies(args),
+        PolicyCall::ReadPolicy => on_policy(to, args),
+        PolicyCall::ReadContext => on_context(to, args),
+        PolicyCall::ComparePolicies => on_policies(to, args),
     }
 }
 
@@ -33,65 +34,65 @@ pub fn context_in(word: &[u8]) -> ContextRead {
 }
 
 // What was read, written back, or the refusal.
-fn write_policy(read: PolicyRead) {
+fn write_policy(to: &mut impl Write, read: PolicyRead) {
     let checked = read.checked;
     let Checked::Fine = checked else {
-        answers::after_check(checked);
+        answers::after_check(to, checked);
         return;
     };
     let bytes = policy::policy_bytes(read.policy);
-    answers::after_call(0, &bytes);
+    answers::after_call(to, 0, &bytes);
 }
 
 // policy BYTES
-fn on_policy(args: &[u8]) {
+fn on_policy(to: &mut impl Write, args: &[u8]) {
     let word = arguments::first(args);
     let extra = arguments::second(args);
     if !arguments::is_bytes(word) || !arguments::is_missing(extra) {
-        answers::malformed();
+        answers::malformed(to);
         return;
     }
-    write_policy(policy_in(word));
+    write_policy(to, policy_in(word));
 }
 
-fn write_context(read: ContextRead) {
+fn write_context(to: &mut impl Write, read: ContextRead) {
     let checked = read.checked;
     let Checked::Fine = checked else {
-        answers::after_check(checked);
+        answers::after_check(to, checked);
         return;
     };
     let bytes = policy::context_bytes(read.context);
-    answers::after_call(0, &bytes);
+    answers::after_call(to, 0, &bytes);
 }
 
 // context BYTES
-fn on_context(args: &[u8]) {
+fn on_context(to: &mut impl Write, args: &[u8]) {
     let word = arguments::first(args);
     let extra = arguments::second(args);
     if !arguments::is_bytes(word) || !arguments::is_missing(extra) {
-        answers::malformed();
+        answers::malformed(to);
         return;
     }
-    write_context(context_in(word));
+    write_context(to, context_in(word));
 }
 
 // Whether two policies are the same, or the refusal of the first that is no policy.
-fn compare(a: PolicyRead, b: PolicyRead) {
+fn compare(to: &mut impl Write, a: PolicyRead, b: PolicyRead) {
     let first = a.checked;
     let Checked::Fine = first else {
-        answers::after_check(first);
+        answers::after_check(to, first);
         return;
     };
     let second = b.checked;
     let Checked::Fine = second else {
-        answers::after_check(second);
+        answers::after_check(to, second);
         return;
     };
-    answers::yes_or_no(policy::same_policy(a.policy, b.policy));
+    answers::yes_or_no(to, policy::same_policy(a.policy, b.policy));
 }
 
 // same-policy BYTES BYTES
-fn on_policies(args: &[u8]) {
+fn on_policies(to: &mut impl Write, args: &[u8]) {
     let first_word = arguments::first(args);
     let second_word = arguments::second(args);
     let extra = arguments::third(args);
@@ -99,8 +100,8 @@ fn on_policies(args: &[u8]) {
         || !arguments::is_bytes(second_word)
         || !arguments::is_missing(extra)
     {
-        answers::malformed();
+        answers::malformed(to);
         return;
     }
-    compare(policy_in(first_word), policy_in(second_word));
+    compare(to, policy_in(first_word), policy_in(second_word));
 }
