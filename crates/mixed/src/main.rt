@@ -138,13 +138,11 @@ fn counted(done: u64, more: u64) -> u64 {
 fn main(rt: HostRuntime) {
     let mut v = begin();
     let mut done: u64 = 0;
-    let mut i: u64 = 0;
-    while i < 50000 {
+    for i in 0..50000u64 {
         let t = change(v, 2 * i);
         v = t.volume;
         done = counted(done, t.done);
         done = counted(done, look(v, 2 * i + 1));
-        i += 1;
     }
     let _ = println!(rt; "{done} done of 100000");
 }
