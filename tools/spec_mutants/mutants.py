@@ -5,7 +5,7 @@ from typing import NamedTuple
 
 from .changes import changes
 from .definitions import definitions
-from .tables import LIBRARY
+from .tables import LIBRARY, PRELUDE
 from .tree import Types, specs
 
 BEFORE, AFTER = 34, 24  # how many letters around a change are printed
@@ -83,7 +83,7 @@ def _brought_in(text, old, new):
         if word in old.split():
             continue
         if word in LIBRARY:
-            text = _use(text, *LIBRARY[word])
+            text = _use(text, LIBRARY[word], PRELUDE)
         elif old.isalnum() and new.isalnum() and not re.search(rf"^use [^\n]*[{{ ]{word}[,}}]", text, re.M):
             beside = re.search(rf"^use (\S+)\.\{{(?:[^}}]* )?{old}[,}}]", text, re.M)
             text = _use(text, word, beside[1]) if beside else text
