@@ -1,4 +1,4 @@
--- The sizes of a name by value, from what owning it tells (`c.good` at a function's entry, `.ok` of a call's result).
+-- The sizes of a name by value, from what owning it tells (`c.well_formed` at a function's entry, `.type_inv` of a call's result).
 -- Assumes nothing.
 use mathlib.Core.Path.{◌≡◌}
 use mathlib.Core.List.{List}

@@ -1,4 +1,4 @@
--- The lengths of a record's arrays, from what owning a value of its type tells (`c.good` at a function's entry, `.ok` of a call's result).
+-- The lengths of a record's arrays, from what owning a value of its type tells (`c.well_formed` at a function's entry, `.type_inv` of a call's result).
 -- Assumes nothing.
 use mathlib.Core.Path.{◌≡◌}
 use mathlib.Core.List.{List}

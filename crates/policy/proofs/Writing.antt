@@ -1,5 +1,5 @@
 -- The fields of a policy and of a context in their bytes: what fills all of an array is what it holds; and the length of a policy's descriptor, from what owning
--- the policy tells (`c.good` at a function's entry). Assumes nothing.
+-- the policy tells (`c.well_formed` at a function's entry). Assumes nothing.
 use mathlib.Core.Path.{◌≡◌, ap, ◌∙◌}
 use mathlib.Core.List.{List, ◌++◌}
 use Prim.Native.Nat.{ℕ, ◌+◌}

@@ -39,13 +39,26 @@ fn replay(rt: &HostRuntime, path: &[u8]) {
     }
 }
 
-fn main(rt: HostRuntime) {
+// Runs the script with this number among the arguments, and says whether there is an argument with this number.
+fn replay_argument(rt: &HostRuntime, i: usize) -> bool {
     let mut path = [0u8; PATH_ROOM];
+    match rt.arg(i, &mut path) {
+        Ok(n) => {
+            replay(rt, &path[..n]);
+            true
+        }
+        Err(FillError::TooLong) => {
+            replay(rt, b"");
+            true
+        }
+        Err(FillError::NotPresent) => false,
+    }
+}
+
+fn main(rt: HostRuntime) {
     for i in 1..usize::MAX {
-        match rt.arg(i, &mut path) {
-            Ok(n) => replay(&rt, &path[..n]),
-            Err(FillError::TooLong) => replay(&rt, b""),
-            Err(FillError::NotPresent) => return,
+        if !replay_argument(&rt, i) {
+            return;
         }
     }
 }

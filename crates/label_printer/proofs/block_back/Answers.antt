@@ -8,5 +8,5 @@ pub returns : goal.returns
 returns c =
     let s = c.args in
     back (xts_encrypt s.key.now s.block_number s.block.now) (xts_decrypt s.key.now s.block_number) _ _ _ _
-    (xts_decrypt_xts_encrypt s.key.now s.block_number s.block.now (λ i. (c.shared_slice_known-1.given i).fits) (λ i. (c.slice_known-1.given i).fits))
+    (xts_decrypt_xts_encrypt s.key.now s.block_number s.block.now (λ i. (c.type_inv.key i).fits) (λ i. (c.slice_known-1.given i).fits))
     (buffer_left _ _ _ c.xts_encrypt.ensures) c.xts_decrypt.ensures

@@ -8,5 +8,5 @@ pub returns : goal.returns
 returns c =
     let s = c.args in
     back (cts_decrypt s.key.now s.text.now) (cts_encrypt s.key.now) _ _ _ _
-    (cts_encrypt_cts_decrypt s.key.now s.text.now (λ i. (c.shared_slice_known-1.given i).fits) (λ i. (c.slice_known-1.given i).fits))
+    (cts_encrypt_cts_decrypt s.key.now s.text.now (λ i. (c.type_inv.key i).fits) (λ i. (c.slice_known-1.given i).fits))
     (buffer_left _ _ _ c.cts_decrypt.ensures) c.cts_encrypt.ensures

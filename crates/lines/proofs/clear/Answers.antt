@@ -1,3 +1,4 @@
+-- `clear`: the goals that the search leaves, from the invariant of Invariants.antt. Assumes nothing.
 use native.Mathlib.Omega.{arith}
 use mathlib.Core.Path.{refl}
 use lib.ListN.{length-set}

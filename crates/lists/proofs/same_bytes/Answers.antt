@@ -1,3 +1,4 @@
+-- `same_bytes`: the goals that the search leaves, from the invariant of Invariants.antt. Assumes nothing.
 use mathlib.Core.Path.{refl, sym}
 use native.Mathlib.Omega.{arith}
 use Rattle.lists.proofs.Loops.{agree_length, differ, agree, agree_all}

@@ -1,3 +1,4 @@
+-- `inv_cipher`: the goals that the search leaves, from the invariant of Invariants.antt. Assumes nothing.
 use native.Mathlib.Omega.{arith}
 use mathlib.Core.Path.{refl}
 use Rattle.aes.specs.Cipher.{round_key}

@@ -1,3 +1,4 @@
+-- `key_expansion`: the goals that the search leaves, from the invariant of Invariants.antt. Assumes nothing.
 use Rattle.aes.specs.KeyExpansion.{expanded}
 use Rattle.aes.proofs.Schedule.{expand_turn, expand_end}
 use native.Mathlib.Omega.{arith}

@@ -1,3 +1,4 @@
+-- `x_power`: the goals that the search leaves, from the invariant of Invariants.antt. Assumes nothing.
 use Rattle.aes.specs.KeyExpansion.{x_power}
 use Rattle.aes.proofs.Schedule.{x_power_next}
 use native.Mathlib.Omega.{arith}

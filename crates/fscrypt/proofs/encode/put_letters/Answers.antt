@@ -1,3 +1,4 @@
+-- `put_letters`: the goals that the search leaves, from the invariant of Invariants.antt. Assumes nothing.
 use mathlib.Core.Path.{sym}
 use Prim.Native.Nat.{◌+◌, ◌<◌}
 use native.Mathlib.Omega.{arith}

@@ -1,3 +1,4 @@
+-- `first_nul_or_slash`: the goals that the search leaves, from the invariant of Invariants.antt. Assumes nothing.
 use mathlib.Core.Path.{sym, ◌∙◌}
 use native.Mathlib.Omega.{arith}
 use borrow.Author.Rules.{rules}

@@ -1,3 +1,4 @@
+-- `climb`: the goals that the search leaves, from the invariant of Invariants.antt. Assumes nothing.
 use mathlib.Core.Path.{refl, sym, ◌∙◌, ap}
 use native.Mathlib.Omega.{arith}
 use Rattle.volume.specs.Lookup.{climb_from}

@@ -1,3 +1,4 @@
+-- `entry_named`: the goals that the search leaves, from the invariant of Invariants.antt. Assumes nothing.
 use native.Mathlib.Omega.{arith}
 use Rattle.volume.specs.Lookup.{entry_named}
 use Rattle.lookup.proofs.Search.{begun, found, passed, ended}

@@ -1,3 +1,4 @@
+-- `first_child`: the goals that the search leaves, from the invariant of Invariants.antt. Assumes nothing.
 use native.Mathlib.Omega.{arith}
 use Rattle.volume.specs.Lookup.{first_child}
 use Rattle.lookup.proofs.Search.{begun, found, passed, ended}

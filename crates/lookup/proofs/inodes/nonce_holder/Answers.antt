@@ -1,3 +1,4 @@
+-- `nonce_holder`: the goals that the search leaves, from the invariant of Invariants.antt. Assumes nothing.
 use native.Mathlib.Omega.{arith}
 use Rattle.volume.specs.Lookup.{nonce_holder}
 use Rattle.lookup.proofs.Search.{begun, found, passed, ended}

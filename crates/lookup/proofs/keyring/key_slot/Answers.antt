@@ -1,3 +1,4 @@
+-- `key_slot`: the goals that the search leaves, from the invariant of Invariants.antt. Assumes nothing.
 use native.Mathlib.Omega.{arith}
 use Rattle.volume.specs.Lookup.{key_slot_of}
 use Rattle.lookup.proofs.Search.{begun, found, passed, ended}

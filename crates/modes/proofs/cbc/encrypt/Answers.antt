@@ -1,3 +1,4 @@
+-- `encrypt`: the goals that the search leaves, from the invariant of Invariants.antt. Assumes nothing.
 use native.Mathlib.Omega.{arith}
 use mathlib.Core.Path.{◌≡◌, refl}
 use Rattle.modes.proofs.BlockLoop.{going_start, going_turn}

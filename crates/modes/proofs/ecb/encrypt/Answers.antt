@@ -1,3 +1,4 @@
+-- `encrypt`: the goals that the search leaves, from the invariant of Invariants.antt. Assumes nothing.
 use native.Mathlib.Omega.{arith}
 use mathlib.Core.Path.{◌≡◌, refl, sym, ◌∙◌}
 use Rattle.modes.proofs.EcbBlocks.{ecb_walked}

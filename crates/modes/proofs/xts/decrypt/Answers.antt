@@ -1,3 +1,4 @@
+-- `decrypt`: the goals that the search leaves, from the invariant of Invariants.antt. Assumes nothing.
 use native.Mathlib.Omega.{arith}
 use mathlib.Core.Path.{◌≡◌}
 use Rattle.modes.specs.Xts.{xts_aes_dec}

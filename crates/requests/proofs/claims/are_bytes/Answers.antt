@@ -2,4 +2,4 @@
 use Rattle.requests.proofs.claims.are_bytes.Goals as goal
 
 pub returns : goal.returns
-returns c = λ j. (c.shared_slice_known-1.given j).fits
+returns c = λ j. (c.type_inv.s j).fits

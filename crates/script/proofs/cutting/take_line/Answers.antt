@@ -1,3 +1,4 @@
+-- `take_line`: the goals that the search leaves, from the invariant of Invariants.antt. Assumes nothing.
 use Prim.Native.Nat.{ℕ, ◌<◌}
 use native.Mathlib.Omega.{arith}
 use mathlib.Core.Path.{◌≡◌, refl, sym, ◌∙◌}

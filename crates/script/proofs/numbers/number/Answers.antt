@@ -1,3 +1,4 @@
+-- `number`: the goals that the search leaves, from the invariant of Invariants.antt. Assumes nothing.
 use Prim.Native.Nat.{ℕ, ◌+◌, ◌*◌}
 use Rattle.script.proofs.Picks.{within_low}
 use native.Mathlib.Omega.{arith}

@@ -1,3 +1,4 @@
+-- `is_all_graphic`: the goals that the search leaves, from the invariant of Invariants.antt. Assumes nothing.
 use native.Mathlib.Omega.{arith}
 use mathlib.Core.Path.{sym, ◌∙◌, ap}
 use Rattle.lists.proofs.Loops.{miss, scanned_none, all_stop, all_pass}

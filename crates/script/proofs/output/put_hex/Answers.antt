@@ -1,3 +1,4 @@
+-- `put_hex`: the goals that the search leaves, from the invariant of Invariants.antt. Assumes nothing.
 use Rattle.lists.specs.Bytes.{hex_digit}
 use Prim.Native.Nat.{◌<◌, ◌/◌, ◌%◌, ℕ, ◌+◌, ◌*◌, ◌≤◌}
 use mathlib.Core.List.{◌++◌, List, ◌∷◌, []}

@@ -1,3 +1,4 @@
+-- `first_blank`: the goals that the search leaves, from the invariant of Invariants.antt. Assumes nothing.
 use native.Mathlib.Omega.{arith}
 use mathlib.Core.Path.{sym, ◌∙◌}
 use Rattle.lists.proofs.Loops.{hit, miss, scanned_none, scanned_all}

@@ -1,3 +1,4 @@
+-- `first_not_blank`: the goals that the search leaves, from the invariant of Invariants.antt. Assumes nothing.
 use mathlib.Core.Path.{ap, sym, ◌∙◌}
 use mathlib.Core.Bool.{not}
 use native.Mathlib.Omega.{arith}

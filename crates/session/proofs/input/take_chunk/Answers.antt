@@ -1,3 +1,4 @@
+-- `take_chunk`: the goals that the search leaves, from the invariant of Invariants.antt. Assumes nothing.
 use Prim.Native.Nat.{◌-◌}
 use native.Mathlib.Omega.{arith}
 use mathlib.Core.Path.{refl}
