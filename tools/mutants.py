@@ -10,10 +10,11 @@
 A theory is a copy of the repository without functions: types, definitions and
 the laws of proofs/, up to the crates volume and names. So what fails is a law,
 a theorem or an example, and never the proof that code does what is defined.
-Theories stand in target/theory/1, target/theory/2 and so on, one for each of
---jobs; verdicts in target/theory/results.jsonl, a line of JSON for each. A
-verdict counts as known while no definition, type or law of the theory changes;
-with --keep, whatever has changed.
+Theories stand in the folder that the environment variable THEORY names, or in one
+of the system's temporary directory, as 1, 2 and so on, one for each of --jobs;
+verdicts beside them in results.jsonl, a line of JSON for each. A verdict counts as
+known while no definition, type or law of the theory changes; with --keep, whatever
+has changed.
 
 Verdicts: `ill-typed`, the text is refused, so it is no mutant; `example`, a
 computed example or a refuted volume fails; `law`, only laws fail, which are

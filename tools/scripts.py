@@ -12,9 +12,9 @@
     tools/scripts.py kernel FILE          the model and what a Linux kernel wrote, and answered
     tools/scripts.py selftest             checks of the model, without the program
 
-Compare and tworuns need the program, at target/bin/bulwarkle below the
-repository or as --program says, and save a script that shows a difference in
-target/ or as --save says. All commands exit with 1 where something differs,
+Compare and tworuns need the program, which `rt run` in crates/bulwarkle builds
+as out/bulwarkle there, or as --program says, and save a script that shows a
+difference in out/ below the repository, which git ignores, or as --save says. All commands exit with 1 where something differs,
 disagrees, is missing or can't be judged, and with 2 on a wrong usage or where a
 file or the program can't be had.
 
@@ -83,11 +83,11 @@ def _add_runner(commands, name, text, action):
     command.set_defaults(action=action)
     command.add_argument("count", type=int, nargs="?", default=50, metavar="COUNT")
     command.add_argument("--program", type=_command,
-                         default=[str(ROOT / "target" / "bin" / "bulwarkle")],
+                         default=[str(ROOT / "crates" / "bulwarkle" / "out" / "bulwarkle")],
                          help="the command to run; it may have arguments")
     command.add_argument("--seed", default="1", help="any text; another seed, other scripts")
     command.add_argument("--length", type=int, default=300, help="requests in a script, about")
-    command.add_argument("--save", type=Path, default=ROOT / "target" / f"{name}-difference.script",
+    command.add_argument("--save", type=Path, default=ROOT / "out" / f"{name}-difference.script",
                          help="where to save a script that shows a difference")
     return command
 

@@ -1,4 +1,4 @@
-/* The ciphers of Bulwarkle for C: link target/staticlib/libcapi.a, which `rt staticlib capi` writes. crates/capi/src/lib.rt has the contracts.
+/* The ciphers of Bulwarkle for C: link out/libcapi.a, which `rt lib` in this folder writes. src/lib.rt has the contracts.
    Each function works in place and answers 0, or 22 (EINVAL) where a length is wrong, and then the buffer is as it was. Each address must have so many
    bytes behind it and not be null, key and buffer must not overlap, and nobody else may write them during the call. */
 #ifndef BULWARKLE_H

@@ -24,7 +24,7 @@ def run(program, script):
                               timeout=TIME_LIMIT, check=False)
     except FileNotFoundError:
         raise FileNotFoundError(
-            f"no program at {program[0]}: build it by `rt check bulwarkle`") from None
+            f"no program at {program[0]}: build it by `rt run` in crates/bulwarkle, with any input") from None
     except subprocess.TimeoutExpired as late:
         return (late.stdout or b"") + b"\n(the program did not end)\n"
     if done.returncode:

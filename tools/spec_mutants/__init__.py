@@ -11,7 +11,7 @@ a theorem or an example, and never the proof that code does what is defined.
     mutants       mutants: their text, how they are printed and made
     theory        the copies without functions, and their digest
     checking      what the prover says of a theory, and the verdict
-    results       target/theory/results.jsonl
+    results       results.jsonl of the theories' folder
     runner        mutants dealt out to several theories
     edits         edits by hand
     equivalent    docs/EQUIVALENT.md

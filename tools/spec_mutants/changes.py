@@ -4,10 +4,10 @@ import re
 
 from .tables import EXCHANGES, MOST_ALIKE
 
-NUMBER = re.compile(r"(?<![\w.·′₁₂-])(0x[0-9a-f]+|\d+)(?![\w·])")
-FIELD = re.compile(r"(?<=[\w′)] )\.([a-zA-Z]\w*)")
+NUMBER = re.compile(r"(?<![\w.'₁₂-])(0x[0-9a-f]+|\d+)(?![\w])")
+FIELD = re.compile(r"(?<=[\w')])\.([a-zA-Z]\w*)")
 ENDS = "\n⇒;="  # what ends a term that stands in no bracket of its own
-CONSTRUCTOR = re.compile(r"(?<![\w.·′-])[A-Za-z]\w*(?![\w·′₁₂-])")
+CONSTRUCTOR = re.compile(r"(?<![\w.'-])[A-Za-z]\w*(?![\w'₁₂-])")
 
 
 class Spot:
@@ -135,9 +135,8 @@ def fields(spot):
 
 def owner(spot, at):
     """The type of what a field is taken of, where it is a variable, or a field of one; else nothing."""
-    chain = re.search(r"(?:^|[\s(])([^\s().]+)((?: \.\w+)*) $", spot.code[:at])
-    before = spot.code[:chain.start(1)].rstrip() if chain else ""
-    if not chain or not before.endswith(("(", "=", ";", "{", "∷", "⇒", "do", "in")) and "\n" not in spot.code[len(before):chain.start(1)]:
+    chain = re.search(r"(?:^|[\s(])([^\s().]+)((?:\.\w+)*)$", spot.code[:at])
+    if not chain:
         return None
     kind = spot.clause.variables.get(chain[1])
     for field in re.findall(r"\.(\w+)", chain[2]):
@@ -149,7 +148,7 @@ def variables(spot):
     """A variable for another of the same type; not the name of a field that is given a value."""
     known = spot.clause.variables
     for old, new in ((old, new) for old in known for new in known if old != new and known[old] == known[new]):
-        for found in spot.find(rf"(?<![\w.·′-]){re.escape(old)}(?![\w·′₁₂-])"):
+        for found in spot.find(rf"(?<![\w.'-]){re.escape(old)}(?![\w'₁₂-])"):
             bound = re.match(r"\s*(:|=[^=])", spot.code[found.end():])
             if not bound:
                 yield "variable", *found.span(), new
@@ -161,7 +160,7 @@ def other_clause(spot):
     own = spot.text[spot.clause.start:spot.clause.end]
     for other in [*spot.clauses[here + 1:], *spot.clauses[:here]]:
         body = spot.text[other.start:other.end]
-        used = [(name, kind) for name, kind in other.variables.items() if re.search(rf"(?<![\w.·′-]){re.escape(name)}(?![\w·′₁₂-])", body)]
+        used = [(name, kind) for name, kind in other.variables.items() if re.search(rf"(?<![\w.'-]){re.escape(name)}(?![\w'₁₂-])", body)]
         if body.strip() != own.strip() and all(spot.clause.variables.get(name) == kind for name, kind in used):
             space = " " * (own.startswith("\n") and not body.startswith("\n"))
             yield "clause", spot.clause.start, spot.clause.end, space + body

@@ -12,8 +12,9 @@ from typing import NamedTuple
 
 from .tables import EXAMPLES
 
-ERROR = re.compile(r"^(?:rt: )?(\S+?)/crates/(\w+)/(\S+?):\d+:\d+: error: (.*)$", re.M)
-NOT_ITS_OWN = ("was not admitted (", "so this cannot be checked")  # what is cited is refused, and so this was not looked at
+ERROR = re.compile(r"(?:\./)?(\S+?):\d+:\d+: error: (.*)")
+CRATE = re.compile(r"crate (\w+): modules loaded=")  # said of a crate after its errors, those of a library below it first
+NOT_ITS_OWN = ("was not admitted", "was rejected", "were not checked", "so this cannot be checked")  # what is cited is refused, and so this was not looked at
 
 _running, _lock, _ended = set(), threading.Lock(), threading.Event()
 
@@ -33,12 +34,11 @@ class Error(NamedTuple):
 
 def prove(directory, crate):
     """The prover's exit status and words of one crate of a theory. RT may name another command than `rt`."""
-    command = [*shlex.split(os.environ.get("RT", "rt")), "dev", crate]
+    command = [*shlex.split(os.environ.get("RT", "rt")), "check", "--jobs", "1"]
     with _lock:
         if _ended.is_set():
             raise Ended
-        process = subprocess.Popen(command, cwd=directory, env=dict(os.environ, RT_CUT="0", RT_JOBS="1"), stdout=subprocess.PIPE,
-                                   stderr=subprocess.STDOUT, start_new_session=True)
+        process = subprocess.Popen(command, cwd=directory / "crates" / crate, stdout=subprocess.PIPE, stderr=subprocess.STDOUT, start_new_session=True)
         _running.add(process)
     said = process.communicate()[0].decode("utf-8", "replace")
     _running.discard(process)
@@ -58,14 +58,18 @@ def end():
                 pass
 
 
-def errors(directory, said):
-    """The errors that are a file's own."""
-    found = []
-    for root, crate, file, text in ERROR.findall(said):
-        if Path(root) == directory and not any(word in text for word in NOT_ITS_OWN):
-            law = re.match(r"`([^`]+)`: ", text)
-            found.append(Error(crate, file, law[1] if law else "?", text[:160]))
-    return found
+def errors(crate, said):
+    """The errors that are a file's own, in what the prover said of a crate and of those below it."""
+    found, of = [], []
+    for line in said.split("\n"):
+        if error := ERROR.match(line):
+            of.append(error.groups())
+        elif (named := CRATE.match(line)) or line.startswith("logic="):
+            found += [(named[1] if named else crate, *each) for each in of]
+            of = []
+    found += [(crate, *each) for each in of]
+    own = [each for each in found if not any(word in each[2] for word in NOT_ITS_OWN)]
+    return [Error(name, file, law[1] if (law := re.match(r"`([^`]+)`: ", text)) else "?", text[:160]) for name, file, text in own]
 
 
 def judged(directory, chain):
@@ -75,7 +79,7 @@ def judged(directory, chain):
         status, said = prove(directory, crate)
         checked.append(crate)
         if status:
-            verdict, laws = _verdict(errors(directory, said), said)
+            verdict, laws = _verdict(errors(crate, said), said)
             break
     else:
         verdict, laws = "unnoticed", []

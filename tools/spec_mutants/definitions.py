@@ -79,7 +79,7 @@ def _fields(lines, n, indent):
 def _clauses(lines, n, head, types, known):
     """The clauses that follow a signature: lines of the same indentation, each with the lines that are indented further."""
     found, name, indent, n = [], head[2], len(head[1]), n + 1
-    operator = f" {name.strip('_')} " if name.startswith("_") else None
+    operator = f" {name.strip('◌')} " if name.startswith("◌") else None
     while n < len(lines.lines):
         line = lines.lines[n]
         if line.strip().startswith("--"):
@@ -103,7 +103,7 @@ def _patterns(name, left):
     """The patterns on the left of a clause, of a prefix name or of an operator."""
     if left.startswith(name + " ") or left == name:
         return split(left[len(name):].strip(), " ")
-    return [part for part in split(left, " ") if part != name.strip("_")]
+    return [part for part in split(left, " ") if part != name.strip("◌")]
 
 
 def _variables(patterns, types, body, known):

@@ -5,7 +5,7 @@ from typing import NamedTuple
 
 from .changes import changes
 from .definitions import definitions
-from .tables import LIBRARY
+from .tables import LIBRARY, PRELUDE
 from .tree import Types, specs
 
 BEFORE, AFTER = 34, 24  # how many letters around a change are printed
@@ -27,7 +27,7 @@ class Mutant(NamedTuple):
 
     def applied(self, text):
         """The file's text with the change made, and what it needs brought in."""
-        return _brought_in(text[:self.start] + self.new + text[self.end:], text[self.start:self.end], self.new)
+        return _brought_in(text[:self.start] + self.new + text[self.end:], text[self.start:self.end], self.new, self.kind)
 
 
 def mutants(crate, below, wanted=()):
@@ -77,14 +77,14 @@ def shown(text, start, end, new):
     return "`%s` → `%s`" % tuple("…" * bool(low) + line[low:len(line) - high] + "…" * bool(high) for line in (one, other))
 
 
-def _brought_in(text, old, new):
+def _brought_in(text, old, new, kind):
     """The text with the names that a change needs: a library's, or a constructor beside the one that it stands for."""
     for word in re.findall(r"[A-Za-z]\w*|&&|\|\||[-+*/%]", new):
         if word in old.split():
             continue
         if word in LIBRARY:
-            text = _use(text, *LIBRARY[word])
-        elif old.isalnum() and new.isalnum() and not re.search(rf"^use [^\n]*[{{ ]{word}[,}}]", text, re.M):
+            text = _use(text, LIBRARY[word], PRELUDE)
+        elif kind in ("alike", "errno") and old.isidentifier() and not re.search(rf"^use [^\n]*[{{ ]{word}[,}}]", text, re.M):
             beside = re.search(rf"^use (\S+)\.\{{(?:[^}}]* )?{old}[,}}]", text, re.M)
             text = _use(text, word, beside[1]) if beside else text
     return text

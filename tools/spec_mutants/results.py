@@ -1,4 +1,4 @@
-"""Verdicts, a line of JSON for each, in target/theory/results.jsonl."""
+"""Verdicts, a line of JSON for each, in results.jsonl of the theories' folder."""
 
 import json
 import threading

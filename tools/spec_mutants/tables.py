@@ -14,15 +14,13 @@ STATEMENT_FILES = {"Cases", "Claims", "Does", "DoneWhen", "Meanings", "RoundTrip
 
 # Definitions elsewhere that are parts of statements alone, though they are values. Definitions that are types, and records, need not stand here:
 # whatever has a type as its value is a statement or a part of one.
-STATEMENTS = {"thirteen"}
+STATEMENTS = {"each_request"}
 
-# What a change may write that the file has not brought in: the name in a `use`, by what is written, and the library's module that has it.
+# What a change may write that the file has not brought in: the name in a `use` of the module below, by what is written.
+PRELUDE = "Rattle.std.specs.Prelude"
 LIBRARY = {
-    "ltb": ("ltb", "lib.Dec"), "leb": ("leb", "lib.Dec"), "take": ("take", "lib.ListN"), "drop": ("drop", "lib.ListN"),
-    "true": ("true", "mathlib.Core.Bool"), "false": ("false", "mathlib.Core.Bool"),
-    "&&": ("_&&_", "mathlib.Core.Bool"), "||": ("_||_", "mathlib.Core.Bool"),
-    "+": ("_+_", "Prim.Native.Nat"), "-": ("_-_", "Prim.Native.Nat"), "*": ("_*_", "Prim.Native.Nat"),
-    "/": ("_/_", "Prim.Native.Nat"), "%": ("_%_", "Prim.Native.Nat"),
+    "ltb": "ltb", "leb": "leb", "take": "take", "drop": "drop", "true": "true", "false": "false",
+    "&&": "◌&&◌", "||": "◌||◌", "+": "◌+◌", "-": "◌-◌", "*": "◌*◌", "/": "◌/◌", "%": "◌%◌",
 }
 
 # Words and operators that are exchanged for their like, by kind of change.

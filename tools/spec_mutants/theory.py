@@ -1,17 +1,22 @@
-"""Theories: copies of the repository without functions, in target/theory, one for each worker. Nothing else is written."""
+"""Theories: copies of the repository without functions, one for each worker, in a folder outside it, since the gate refuses definitions that stand in no crate of
+the list: THEORY names it, or it is one of the system's temporary directory. Nothing else is written."""
 
 import fcntl
 import hashlib
+import os
 import re
 import shutil
 import signal
 import sys
+import tempfile
 from contextlib import contextmanager
+from pathlib import Path
 
 from . import tree
 from .checking import errors, prove
 
-DIRECTORY = tree.ROOT / "target" / "theory"
+_NAME = "bulwarkle-theory-" + hashlib.sha256(str(tree.ROOT).encode()).hexdigest()[:8]
+DIRECTORY = Path(os.environ.get("THEORY") or Path(tempfile.gettempdir()) / _NAME)
 FUNCTION = re.compile(r'(pub(\(crate\))? )?(extern "C" )?fn |impl ')
 USE_OF_FUNCTION = re.compile(r"(pub )?use (.*::)?[a-z_0-9]+;$")
 
@@ -28,7 +33,7 @@ def without_functions(text):
             inside = line not in ("}", "{}")
         elif FUNCTION.match(line):
             inside = not line.rstrip().endswith(";")
-        elif not USE_OF_FUNCTION.match(line) and not line.startswith(("ghost use ", "#[")):
+        elif not USE_OF_FUNCTION.match(line) and not line.startswith(("ghost use ", "#[")) or line.startswith("#[derive("):
             kept.append(line)
     return "\n".join(kept)
 
@@ -61,7 +66,8 @@ class Theory:
     def renew(self):
         """Makes its files those of the repository, and removes others; what the prover left stays."""
         for path in self.directory.glob("crates/**/*.*"):
-            if path.is_file() and str(path.relative_to(self.directory)) not in self.files:
+            below = path.relative_to(self.directory)
+            if path.is_file() and below.parts[2] != "out" and str(below) not in self.files:
                 path.unlink()
         self.write(self.files)
 
@@ -92,7 +98,7 @@ class Theory:
         for crate in [] if self.proved else tree.theory_crates():
             status, said = prove(self.directory, crate)
             if status:
-                raise NotProved(f"{crate} of {self.directory} is not proved:\n" + ("\n".join(map(str, errors(self.directory, said)[:12])) or said[-2000:]))
+                raise NotProved(f"{crate} of {self.directory} is not proved:\n" + ("\n".join(map(str, errors(crate, said)[:12])) or said[-2000:]))
             print(f"theory: {crate} proved", flush=True)
         self.mark.write_text(digest(self.files))
 

@@ -64,7 +64,7 @@ def theory_crates():
 @cache
 def cites(crate, other, file):
     """Whether a file of a crate cites a file of another crate's definitions. A law unfolds by name alone, so it sees no other."""
-    word = f"use Rattle·{other}.specs.{file}."
+    word = f"use Rattle.{other}.specs.{file}."
     return any(word in path.read_text() for path in [*specs(crate), *laws(crate)])
 
 
