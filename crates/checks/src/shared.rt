@@ -8,7 +8,7 @@ use ids::InodeNumber;
 use lookup::inodes;
 use volume::{DIRECTORY, FREE, Inode, SYMLINK, Volume};
 
-// The policy refusal: policyRefusal of volume/specs/Checks.antt.
+// The policy refusal: policy_refusal of volume/specs/Checks.antt.
 pub const POLICY_REFUSAL: Errno = Errno::EXDEV;
 
 // Whether an encrypted directory would gain an inode that lacks its policy.

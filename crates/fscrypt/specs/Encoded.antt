@@ -2,7 +2,7 @@
 use Rattle.std.specs.Prelude.{ℕ, ◌+◌, ◌-◌, ◌*◌, ◌/◌, ◌%◌, cond, [], ◌∷◌, ◌++◌, length, take, leb, ltb}
 use Rattle.lists.specs.Bytes.{Bytes, hex_digit}
 
--- "letters `A-Z a_z 0-9 + ,` for 0 to 63"
+-- "letters `A-Z a-z 0-9 + ,` for 0 to 63"
 unfoldable pub letter : ℕ → ℕ
 letter n = cond (ltb n 26) (n + 65) (cond (ltb n 52) (n + 71) (cond (ltb n 62) (n - 4) (n - 19)))
 

@@ -57,7 +57,7 @@ pub record ReadAs (q : ℕ) (b n : Bytes) : Type 0 where
 
 -- ---- letters
 
--- "letters `A-Z a_z 0-9 + ,` for 0 to 63"
+-- "letters `A-Z a-z 0-9 + ,` for 0 to 63"
 abbrev pub alphabet : Bytes
 alphabet =
     65 ∷ 66 ∷ 67 ∷ 68 ∷ 69 ∷ 70 ∷ 71 ∷ 72 ∷ 73 ∷ 74 ∷ 75 ∷ 76 ∷ 77 ∷ 78 ∷ 79 ∷ 80 ∷ 81 ∷ 82 ∷ 83 ∷ 84 ∷ 85 ∷ 86 ∷ 87 ∷ 88 ∷ 89 ∷ 90 ∷

@@ -1,8 +1,7 @@
 // The numbers by which requests name what stands on a volume: a type for each, so that neither passes for the other anywhere.
-
-// An inode's number (document 01: thing). Numbers are wide: one that names nothing is refused in its turn.
 #![tactic(auto)]
 
+// An inode's number (document 01: thing). Numbers are wide: one that names nothing is refused in its turn.
 #[derive(Clone, Copy)]
 pub struct InodeNumber(pub u64);
 

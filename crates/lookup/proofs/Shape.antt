@@ -6,7 +6,7 @@ use lib.ListN.{length}
 use mir.Val.{Val}
 use denote.Laws.{Is}
 use Rattle.fscrypt.proofs.Shape.{Sized}
-use Rattle.volume.specs.contracts.Volume.{the_row as volume-row}
+use Rattle.volume.specs.contracts.Volume.{the_row as volume_row}
 use Rattle.volume.specs.contracts.Entry.{the_row as entry_row}
 use Rattle.volume.specs.Volume.{key_slots, inode_slots, entry_slots}
 use Rattle.volume.specs.declared.Volume.{Volume}
@@ -17,7 +17,7 @@ pub record Shaped (v : Volume) : Type 0 where
   pub inodes : length v.inodes ≡ inode_slots
   pub entries : length v.entries ≡ entry_slots
 
-pub shaped : (v : Volume) {vs : List Val} → Is volume-row v vs → Shaped v
+pub shaped : (v : Volume) {vs : List Val} → Is volume_row v vs → Shaped v
 shaped v g =
     record {
       keys = g.1.1.0.1.0.1;

@@ -13,9 +13,9 @@ use Rattle.lists.proofs.Copies.{sets_more, copied_whole}
 use Rattle.policy.specs.Policies.{field_bytes, policy_bytes, context_bytes}
 use Rattle.policy.specs.declared.Policy.{Policy}
 use Rattle.policy.specs.declared.Context.{Context}
-use Rattle.policy.specs.contracts.Policy.{the_row as policy-row}
+use Rattle.policy.specs.contracts.Policy.{the_row as policy_row}
 
-pub descriptor_length : (p : Policy) {vs : List Val} → Is policy-row p vs → length p.descriptor ≡ 8
+pub descriptor_length : (p : Policy) {vs : List Val} → Is policy_row p vs → length p.descriptor ≡ 8
 descriptor_length p g = g.1.1.1.1.1.1.0.1.0.1
 
 pub policy_put : (z b : Bytes) (p : Policy) → length z ≡ 12 → length p.descriptor ≡ 8 → b ≡ sets z 0 (field_bytes p.version p) → b ≡ policy_bytes p

@@ -6,7 +6,7 @@ pub mod claims;
 
 ghost use Rattle.std.specs.Prelude.{◌≡◌, []};
 ghost use Rattle.fscrypt.specs.Cipher.{fscrypt};
-ghost use Rattle.volume.specs.Volume.{fresh as freshVolume};
+ghost use Rattle.volume.specs.Volume.{fresh as fresh_volume};
 ghost use Rattle.volume.specs.Request.{outcome, replied, create_answered, entry_answered, policy_answered, show_answered};
 ghost use Rattle.volume.specs.Request;
 ghost use Rattle.volume.specs.Step.{step};
@@ -22,7 +22,7 @@ use volume::{
 
 // A volume with the root directory and nothing else.
 pub fn fresh() -> Volume
-    ensures { result ≡ freshVolume }
+    ensures { result ≡ fresh_volume }
 {
     let k = lookup::keyring::no_key();
     let n = lookup::inodes::no_inode();

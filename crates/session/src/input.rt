@@ -17,12 +17,11 @@ const OUT_ROOM: usize = 263200;
 // Room for what one read takes.
 const CHUNK_ROOM: usize = 65536;
 
-// How far the input has been read: the volume, how many bytes of the next line the buffer holds, and whether a write has failed.
+// How far the input has been read: the volume, and how many bytes of the next line the buffer holds.
 #[derive(Clone, Copy)]
 struct Progress {
     volume: Volume,
     used: usize,
-    cut_off: bool,
 }
 
 // The same after a part of a chunk, with how many bytes that took, and how many bytes of the output buffer it says.
@@ -101,11 +100,11 @@ fn next_answer(
     }
 }
 
-// Writes what is said, and returns whether the write failed.
-fn say<W: Write>(output: &mut W, out: &[u8], len: usize) -> bool
+// Writes what is said. A write that fails is not noticed.
+fn say<W: Write>(output: &mut W, out: &[u8], len: usize)
     requires { len ≤ length out.now }
 {
-    output.write_all(&out[..len]).is_err()
+    let _ = output.write_all(&out[..len]);
 }
 
 // Answers each line that ends in a chunk of the input.
@@ -124,14 +123,12 @@ fn take_chunk<W: Write>(
     let mut p = start;
     let mut at: usize = 0;
     while at < chunk.len() {
-        let cut_off = p.cut_off;
         let t = next_answer(p, line, &chunk[at..], payload, out);
-        let failed = say(output, out, t.len);
+        say(output, out, t.len);
         let v = t.volume;
         p = Progress {
             volume: v,
             used: t.used,
-            cut_off: cut_off | failed,
         };
         at += t.taken;
     }
@@ -148,8 +145,8 @@ fn read_chunk<R: Read>(input: &mut R, chunk: &mut [u8]) -> usize
     }
 }
 
-// Answers the lines that newlines end, until no byte comes or a write has failed. A proved loop has to end, and nothing says that the input does: so the loop
-// has as many turns as a number that no run uses up. The session is one of some bytes, on a fresh volume; that they are those that came is to be read here.
+// Answers the lines that newlines end, until no byte comes. A proved loop has to end, and nothing says that the input does: so the loop has as many turns
+// as a number that no run uses up. The session is one of some bytes, on a fresh volume; that they are those that came is to be read here.
 fn take_all<R: Read, W: Write>(
     input: &mut R,
     output: &mut W,
@@ -164,7 +161,6 @@ fn take_all<R: Read, W: Write>(
     let mut p = Progress {
         volume: requests::fresh(),
         used: 0,
-        cut_off: false,
     };
     for _ in 0..u64::MAX {
         let n = read_chunk(input, chunk);
@@ -172,9 +168,6 @@ fn take_all<R: Read, W: Write>(
             return p;
         }
         p = take_chunk(p, line, &chunk[..n], payload, out, output);
-        if p.cut_off {
-            return p;
-        }
     }
     p
 }
@@ -184,9 +177,10 @@ fn take_all<R: Read, W: Write>(
 // Proved: the volume is the one that specs/Input.antt has at the end of some input; and each text that `say` is given is what that file says to the bytes
 // taken, in their order and however they come in chunks (`next_answer`: Says, Feeds; `answer_kept`: Ends; `take_all`: Begun).
 // Not proved, but to be read in `take_all`, `take_chunk` and here: that these bytes are those that `read` delivered, all of them, and that each text is
-// written, once and in order. The contracts of `Read::read` and `Write::write_all` say of a file or a standard stream how many bytes were moved at most, not which.
-// A read that fails, also by a signal, counts as the end of the input. A write that fails ends the reading: the bytes that have come by then are still
-// taken, and nothing after them. After 2^64 - 1 reads no more input is taken. No theorem bounds the stack: the buffers here alone are 590,884 bytes.
+// written, once and in order. What the contracts of `Read::read` and `Write::write_all` say of a file or a standard stream is assumed of the system, and is how
+// many bytes were moved at most, not which.
+// A read that fails, also by a signal, counts as the end of the input. A write that fails is not noticed: `write_all` stops there and answers an error,
+// which `say` drops, and the script runs on. After 2^64 - 1 reads no more input is taken. No theorem bounds the stack: the buffers here alone are 590,884 bytes.
 pub fn run<R: Read, W: Write>(input: &mut R, output: &mut W) -> Volume
     ensures { Ran result }
 {

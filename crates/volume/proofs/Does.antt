@@ -157,7 +157,7 @@ module _ (dir : Inode) (kind : ℕ) (x : Bytes) where
 
 -- ---- directory entries
 
--- a slot that was written by entrySlot
+-- a slot that was written by `entry_slot`
 joins : (w : Volume) (e : ℕ) (p i : InodeNumber) (s : Bytes) → slot_at w e ≡ entry_slot p i s → Joins w e p i s
 joins w e p i s q = record {
   parent = ap (λ (x : Entry). x.parent) q;

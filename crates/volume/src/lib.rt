@@ -41,7 +41,7 @@ pub struct Entry {
     pub name: [u8; 255],
 }
 
-// How many keys, inodes and directory entries there is room for: keySlots, inodeSlots and entrySlots of specs/Volume.antt.
+// How many keys, inodes and directory entries there is room for: key_slots, inode_slots and entry_slots of specs/Volume.antt.
 pub const KEY_SLOTS: usize = 8;
 
 pub const INODE_SLOTS: usize = 64;

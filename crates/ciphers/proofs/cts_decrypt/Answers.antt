@@ -1,4 +1,4 @@
--- `cts_decrypt` answers as ctsDecrypt says: where the lengths fit, by what the cipher ensures; else EINVAL, and the buffer is as it was. Assumes nothing.
+-- `cts_decrypt` answers as its definition says: where the lengths fit, by what the cipher ensures; else EINVAL, and the buffer is as it was. Assumes nothing.
 use mathlib.Core.Path.{sym, ◌∙◌}
 use lib.ListN.{length}
 use Rattle.ciphers.specs.Entries.{cts_fits, cts_decrypt}

@@ -1,4 +1,4 @@
--- `cts_encrypt` answers as ctsEncrypt says: where the lengths fit, by what the cipher ensures; else EINVAL, and the buffer is as it was. Assumes nothing.
+-- `cts_encrypt` answers as its definition says: where the lengths fit, by what the cipher ensures; else EINVAL, and the buffer is as it was. Assumes nothing.
 use mathlib.Core.Path.{sym, ◌∙◌}
 use lib.ListN.{length}
 use Rattle.ciphers.specs.Entries.{cts_fits, cts_encrypt}

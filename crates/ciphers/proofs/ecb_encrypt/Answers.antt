@@ -1,4 +1,4 @@
--- `ecb_encrypt` answers as ecbEncrypt says: where the lengths fit, by what the cipher ensures; else EINVAL, and the buffer is as it was. Assumes nothing.
+-- `ecb_encrypt` answers as its definition says: where the lengths fit, by what the cipher ensures; else EINVAL, and the buffer is as it was. Assumes nothing.
 use mathlib.Core.Path.{sym, ◌∙◌}
 use lib.ListN.{length}
 use Rattle.ciphers.specs.Entries.{ecb_fits, ecb_encrypt}

@@ -1,4 +1,4 @@
--- `xts_encrypt` answers as xtsEncrypt says: where the lengths fit, by what the cipher ensures; else EINVAL, and the buffer is as it was. Assumes nothing.
+-- `xts_encrypt` answers as its definition says: where the lengths fit, by what the cipher ensures; else EINVAL, and the buffer is as it was. Assumes nothing.
 use mathlib.Core.Path.{sym, ◌∙◌}
 use lib.ListN.{length}
 use Rattle.ciphers.specs.Entries.{xts_fits, xts_encrypt}

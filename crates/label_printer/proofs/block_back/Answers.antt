@@ -1,4 +1,4 @@
--- `block_back`: by the law that xtsDecrypt undoes xtsEncrypt, and by what the two entries ensure. Assumes nothing.
+-- `block_back`: by the law that `xts_decrypt` undoes `xts_encrypt`, and by what the two entries ensure. Assumes nothing.
 use Rattle.ciphers.specs.Entries.{xts_encrypt, xts_decrypt}
 use Rattle.ciphers.proofs.Laws.{buffer_left, xts_decrypt_xts_encrypt}
 use Rattle.label_printer.proofs.Back.{back}

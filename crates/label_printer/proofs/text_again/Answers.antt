@@ -1,4 +1,4 @@
--- `text_again`: by the law that ctsEncrypt undoes ctsDecrypt, and by what the two entries ensure. Assumes nothing.
+-- `text_again`: by the law that `cts_encrypt` undoes `cts_decrypt`, and by what the two entries ensure. Assumes nothing.
 use Rattle.ciphers.specs.Entries.{cts_decrypt, cts_encrypt}
 use Rattle.ciphers.proofs.Laws.{buffer_left, cts_encrypt_cts_decrypt}
 use Rattle.label_printer.proofs.Back.{back}

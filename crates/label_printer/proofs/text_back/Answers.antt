@@ -1,4 +1,4 @@
--- `text_back`: by the law that ctsDecrypt undoes ctsEncrypt, and by what the two entries ensure. Assumes nothing.
+-- `text_back`: by the law that `cts_decrypt` undoes `cts_encrypt`, and by what the two entries ensure. Assumes nothing.
 use Rattle.ciphers.specs.Entries.{cts_encrypt, cts_decrypt}
 use Rattle.ciphers.proofs.Laws.{buffer_left, cts_decrypt_cts_encrypt}
 use Rattle.label_printer.proofs.Back.{back}

@@ -1,4 +1,4 @@
--- `is_pair` is `is_pair`: the second test counts where the first held. Assumes nothing.
+-- `is_pair` is the definition of its name: the second test counts where the first held. Assumes nothing.
 use Rattle.lists.proofs.Predicates.{predicates}
 use Rattle.policy.specs.Policies.{is_pair}
 use Rattle.policy.proofs.is_pair.Goals as goal

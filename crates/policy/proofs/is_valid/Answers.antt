@@ -1,4 +1,4 @@
--- `is_valid` is `is_valid`: a test that fails ends it, and the last one is the answer. Assumes nothing.
+-- `is_valid` is the definition of its name: a test that fails ends it, and the last one is the answer. Assumes nothing.
 use mathlib.Core.Path.{refl, sym, ◌∙◌}
 use borrow.Author.Tests.{eq-eqb}
 use Rattle.lists.proofs.Predicates.{predicates, and_stop, and_go}

@@ -1,4 +1,4 @@
--- `name_key_size` is `name_key_size`, which computes. Assumes nothing.
+-- `name_key_size` is the definition of its name, which computes. Assumes nothing.
 use mathlib.Core.Path.{refl}
 use native.Mathlib.Omega.{arith}
 use Rattle.policy.specs.Policies.{name_key_size}

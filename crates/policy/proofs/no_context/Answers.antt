@@ -1,4 +1,4 @@
--- `no_context` is `no_context`, all zeros. Assumes nothing.
+-- `no_context` is the definition of its name, all zeros. Assumes nothing.
 use Rattle.policy.proofs.no_context.Goals as goal
 
 pub returns : goal.returns

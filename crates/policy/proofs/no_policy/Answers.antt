@@ -1,4 +1,4 @@
--- `no_policy` is `no_policy`, all zeros. Assumes nothing.
+-- `no_policy` is the definition of its name, all zeros. Assumes nothing.
 use Rattle.policy.proofs.no_policy.Goals as goal
 
 pub returns : goal.returns

@@ -1,4 +1,4 @@
--- `read_context` is `read_context`: one law of Reading for each way through the code. Assumes nothing.
+-- `read_context` is the definition of its name: one law of Reading for each way through the code. Assumes nothing.
 use Rattle.policy.proofs.Meanings.{reads_context}
 use Rattle.policy.proofs.Reading.{context_length_refused, context_format_refused, context_refused, context_taken_lem}
 use mathlib.Core.Bool.{not}

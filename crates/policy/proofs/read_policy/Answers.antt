@@ -1,4 +1,4 @@
--- `read_policy` is `read_policy`: one law of Reading for each way through the code. Assumes nothing.
+-- `read_policy` is the definition of its name: one law of Reading for each way through the code. Assumes nothing.
 use Rattle.policy.proofs.Meanings.{reads_policy}
 use Rattle.policy.proofs.Reading.{policy_length_refused, policy_refused, policy_taken_lem}
 use mathlib.Core.Bool.{not}

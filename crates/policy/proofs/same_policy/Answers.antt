@@ -1,4 +1,4 @@
--- `same_policy` is `same_policy`: a test that fails ends it, and that of the descriptors is the answer. Assumes nothing.
+-- `same_policy` is the definition of its name: a test that fails ends it, and that of the descriptors is the answer. Assumes nothing.
 use mathlib.Core.Path.{sym}
 use borrow.Author.Tests.{eq-eqb}
 use Rattle.lists.proofs.Predicates.{predicates, and_go}

@@ -1,4 +1,4 @@
--- `block_check` is `block_check`: line by line of its table. Assumes nothing.
+-- `block_check` is the definition of its name: line by line of its table. Assumes nothing.
 use Rattle.volume.specs.Checks.{block_check}
 use Rattle.checks.proofs.Lines.{lines}
 use Rattle.checks.proofs.contents.block_check.Goals as goal

@@ -1,4 +1,4 @@
--- `create_check` is `create_check`: line by line of its table, the end of which is `room_check`. Assumes nothing.
+-- `create_check` is the definition of its name: line by line of its table, the end of which is `room_check`. Assumes nothing.
 use Rattle.volume.specs.Checks.{create_check}
 use Rattle.checks.proofs.Lines.{calls, fits}
 use mathlib.Core.Path.{sym, ◌∙◌}

@@ -1,4 +1,4 @@
--- `exchange_check` is `exchange_check`: line by line of its table, the end of which is `swap_check` of the entries that were looked up. Assumes nothing.
+-- `exchange_check` is the definition of its name: line by line of its table, the end of which is `swap_check` of the entries that were looked up. Assumes nothing.
 use Rattle.volume.specs.Checks.{exchange_check}
 use Rattle.checks.proofs.Lines.{lines}
 use Rattle.checks.proofs.directory.exchange_check.Goals as goal

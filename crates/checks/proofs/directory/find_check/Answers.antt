@@ -1,4 +1,4 @@
--- `find_check` is `find_check`: line by line of its table. Assumes nothing.
+-- `find_check` is the definition of its name: line by line of its table. Assumes nothing.
 use Rattle.volume.specs.Checks.{find_check}
 use Rattle.checks.proofs.Lines.{calls, fits}
 use Rattle.lists.proofs.Predicates.{bool_via}

@@ -1,4 +1,4 @@
--- `is_bad_kind` is `is_bad_kind`: the first test that holds ends it. Assumes nothing.
+-- `is_bad_kind` is the definition of its name: the first test that holds ends it. Assumes nothing.
 use Rattle.volume.specs.Checks.{is_bad_kind}
 use Rattle.lists.proofs.Predicates.{predicates}
 use Rattle.checks.proofs.directory.is_bad_kind.Goals as goal

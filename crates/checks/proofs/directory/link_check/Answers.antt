@@ -1,4 +1,4 @@
--- `link_check` is `link_check`: line by line of its table, the end of which is `linked_check`. Assumes nothing.
+-- `link_check` is the definition of its name: line by line of its table, the end of which is `linked_check`. Assumes nothing.
 use Rattle.volume.specs.Checks.{link_check}
 use Rattle.checks.proofs.Lines.{lines, fits}
 use Rattle.checks.proofs.directory.link_check.Goals as goal

@@ -1,4 +1,4 @@
--- `linked_check` is `linked_check`: line by line of its table. Assumes nothing.
+-- `linked_check` is the definition of its name: line by line of its table. Assumes nothing.
 use Rattle.checks.proofs.Lines.{lines}
 use Rattle.lists.proofs.Predicates.{bool_via}
 use borrow.Author.Rules.{rules}

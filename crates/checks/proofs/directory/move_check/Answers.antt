@@ -1,4 +1,4 @@
--- `move_check` is `move_check`: line by line of its table. Assumes nothing.
+-- `move_check` is the definition of its name: line by line of its table. Assumes nothing.
 use Rattle.checks.proofs.Lines.{calls}
 use mathlib.Core.Path.{sym, ◌∙◌}
 use borrow.Author.Rules.{rules}

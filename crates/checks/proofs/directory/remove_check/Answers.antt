@@ -1,4 +1,4 @@
--- `remove_check` is `remove_check`: line by line of its table, on the entry that was looked up. Assumes nothing.
+-- `remove_check` is the definition of its name: line by line of its table, on the entry that was looked up. Assumes nothing.
 use Rattle.volume.specs.Checks.{remove_check}
 use Rattle.checks.proofs.Lines.{lines}
 use Rattle.checks.proofs.directory.remove_check.Goals as goal

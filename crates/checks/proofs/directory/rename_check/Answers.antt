@@ -1,4 +1,4 @@
--- `rename_check` is `rename_check`: line by line of its table, the end of which is `move_check` of the entry that was looked up. Assumes nothing.
+-- `rename_check` is the definition of its name: line by line of its table, the end of which is `move_check` of the entry that was looked up. Assumes nothing.
 use Rattle.volume.specs.Checks.{rename_check}
 use Rattle.checks.proofs.Lines.{lines, fits}
 use Rattle.checks.proofs.directory.rename_check.Goals as goal

@@ -1,4 +1,4 @@
--- `room_check` is `room_check`: line by line of its table. Assumes nothing.
+-- `room_check` is the definition of its name: line by line of its table. Assumes nothing.
 use Rattle.checks.proofs.Lines.{calls}
 use Rattle.checks.proofs.directory.room_check.Goals as goal
 

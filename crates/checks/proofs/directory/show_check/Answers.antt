@@ -1,4 +1,4 @@
--- `show_check` is `show_check`: line by line of its table, and the name that was read tells the last line. Assumes nothing.
+-- `show_check` is the definition of its name: line by line of its table, and the name that was read tells the last line. Assumes nothing.
 use Rattle.volume.specs.Checks.{show_check}
 use Rattle.checks.proofs.Lines.{lines, len_ne_via, shown_via}
 use borrow.Author.Tests.{le-ltb}

@@ -1,4 +1,4 @@
--- `swap_check` is `swap_check`: line by line of its table. Assumes nothing.
+-- `swap_check` is the definition of its name: line by line of its table. Assumes nothing.
 use Rattle.checks.proofs.Lines.{calls}
 use Rattle.checks.proofs.directory.swap_check.Goals as goal
 

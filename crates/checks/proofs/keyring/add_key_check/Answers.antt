@@ -1,4 +1,4 @@
--- `add_key_check` is `add_key_check`: line by line of its table. Assumes nothing.
+-- `add_key_check` is the definition of its name: line by line of its table. Assumes nothing.
 use Rattle.volume.specs.Checks.{add_key_check}
 use Rattle.checks.proofs.Lines.{calls}
 use Rattle.checks.proofs.keyring.add_key_check.Goals as goal

@@ -1,4 +1,4 @@
--- `is_bad_key_length` is `is_bad_key_length`: each length that is taken ends it. Assumes nothing.
+-- `is_bad_key_length` is the definition of its name: each length that is taken ends it. Assumes nothing.
 use Rattle.volume.specs.Checks.{is_bad_key_length}
 use borrow.Author.Tests.{eq-eqb, ne_eqb}
 use Rattle.checks.proofs.keyring.is_bad_key_length.Goals as goal

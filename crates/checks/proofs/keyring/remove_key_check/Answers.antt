@@ -1,4 +1,4 @@
--- `remove_key_check` is `remove_key_check`: line by line of its table. Assumes nothing.
+-- `remove_key_check` is the definition of its name: line by line of its table. Assumes nothing.
 use Rattle.volume.specs.Checks.{remove_key_check}
 use Rattle.checks.proofs.Lines.{calls}
 use Rattle.checks.proofs.keyring.remove_key_check.Goals as goal

@@ -1,4 +1,4 @@
--- `first_policy_check` is `first_policy_check`: line by line of its table, the end of which is `nonce_check`. Assumes nothing.
+-- `first_policy_check` is the definition of its name: line by line of its table, the end of which is `nonce_check`. Assumes nothing.
 use Rattle.checks.proofs.Lines.{lines}
 use Rattle.checks.proofs.policies.first_policy_check.Goals as goal
 

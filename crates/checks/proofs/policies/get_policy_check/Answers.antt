@@ -1,4 +1,4 @@
--- `get_policy_check` is `get_policy_check`: line by line of its table. Assumes nothing.
+-- `get_policy_check` is the definition of its name: line by line of its table. Assumes nothing.
 use Rattle.volume.specs.Checks.{get_policy_check}
 use Rattle.checks.proofs.Lines.{lines}
 use Rattle.checks.proofs.policies.get_policy_check.Goals as goal

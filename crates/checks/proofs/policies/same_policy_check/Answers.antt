@@ -1,4 +1,4 @@
--- `same_policy_check` is `same_policy_check`: line by line of its table. Assumes nothing.
+-- `same_policy_check` is the definition of its name: line by line of its table. Assumes nothing.
 use Rattle.checks.proofs.Lines.{lines}
 use Rattle.checks.proofs.policies.same_policy_check.Goals as goal
 

@@ -1,4 +1,4 @@
--- `set_policy_check` is `set_policy_check`: line by line of its table, on the inode that was looked up and the policy that was read. Assumes nothing.
+-- `set_policy_check` is the definition of its name: line by line of its table, on the inode that was looked up and the policy that was read. Assumes nothing.
 use Rattle.volume.specs.Checks.{set_policy_check}
 use Rattle.checks.proofs.Lines.{lines, line_so, line_not, policy_set}
 use Rattle.checks.proofs.policies.set_policy_check.Goals as goal

@@ -1,4 +1,4 @@
--- `directory_check` is `directory_check`: line by line of its table. Assumes nothing.
+-- `directory_check` is the definition of its name: line by line of its table. Assumes nothing.
 use Rattle.volume.specs.Checks.{directory_check}
 use Rattle.checks.proofs.Lines.{lines}
 use Rattle.checks.proofs.shared.directory_check.Goals as goal

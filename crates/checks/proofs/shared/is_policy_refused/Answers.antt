@@ -1,4 +1,4 @@
--- `is_policy_refused` is `is_policy_refused`: the first test that fails, or holds, ends it. Assumes nothing.
+-- `is_policy_refused` is the definition of its name: the first test that fails, or holds, ends it. Assumes nothing.
 use Rattle.volume.specs.Checks.{is_policy_refused}
 use Rattle.lists.proofs.Predicates.{predicates}
 use Rattle.checks.proofs.shared.is_policy_refused.Goals as goal

@@ -1,4 +1,4 @@
--- `nonce_check` is `nonce_check`: line by line of its table. Assumes nothing.
+-- `nonce_check` is the definition of its name: line by line of its table. Assumes nothing.
 use Rattle.volume.specs.Checks.{nonce_check}
 use Rattle.checks.proofs.Lines.{lines}
 use Rattle.checks.proofs.shared.nonce_check.Goals as goal

@@ -1,4 +1,4 @@
--- `cts_fits` tests what ctsFits does, in its order: each return rewrites with the tests that led there. Assumes nothing.
+-- `cts_fits` tests what its definition does, in its order: each return rewrites with the tests that led there. Assumes nothing.
 use borrow.Author.Tests.{eq-eqb, ne_eqb, le-leb, lt-leb}
 use Rattle.ciphers.specs.Entries.{cts_fits}
 use Rattle.ciphers.proofs.keys.cts_fits.Goals as goal

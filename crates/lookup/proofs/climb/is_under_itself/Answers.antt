@@ -1,4 +1,4 @@
--- `is_under_itself` is `is_under_itself`: the moved inode is a directory, and the climb meets it. Assumes nothing.
+-- `is_under_itself` is the definition of its name: the moved inode is a directory, and the climb meets it. Assumes nothing.
 use mathlib.Core.Path.{sym, ◌∙◌}
 use Rattle.lists.proofs.Predicates.{predicates}
 use Rattle.volume.specs.Lookup.{is_under_itself}

@@ -1,4 +1,4 @@
--- `parent_of` is `parent_of`: the parent of the entry that the search came to; past the table's end that is a free record's, the root. Assumes nothing.
+-- `parent_of` is the definition of its name: the parent of the entry that the search came to; past the table's end that is a free record's, the root. Assumes nothing.
 use mathlib.Core.Path.{◌∙◌, ap}
 use Prim.Native.Nat.{ℕ}
 use lib.ListN.{get_or}

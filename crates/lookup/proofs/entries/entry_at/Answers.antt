@@ -1,4 +1,4 @@
--- `entry_at` is `entry_at`: within the table a read, and past its end the free record. Assumes nothing.
+-- `entry_at` is the definition of its name: within the table a read, and past its end the free record. Assumes nothing.
 use mathlib.Core.Path.{sym, ◌∙◌}
 use native.Mathlib.Omega.{arith}
 use lib.ListN.{get_or-eq_default}

@@ -1,4 +1,4 @@
--- `entry_named` is `entry_named`: the first entry of the directory with the name. The loop's invariant: nothing before slot `i` passes the test (`Searched`).
+-- `entry_named` is the definition of its name: the first entry of the directory with the name. The loop's invariant: nothing before slot `i` passes the test (`Searched`).
 -- The measure is how many slots are left. Assumes nothing.
 use Prim.Native.Nat.{◌-◌}
 use Rattle.fscrypt.specs.Names.{name_bytes}

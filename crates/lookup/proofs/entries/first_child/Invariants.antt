@@ -1,4 +1,4 @@
--- `first_child` is `first_child`: the first entry of the directory. The loop's invariant: nothing before slot `i` passes the test (`Searched`).
+-- `first_child` is the definition of its name: the first entry of the directory. The loop's invariant: nothing before slot `i` passes the test (`Searched`).
 -- The measure is how many slots are left. Assumes nothing.
 use Prim.Native.Nat.{◌-◌}
 use Rattle.volume.specs.Volume.{entry_slots}

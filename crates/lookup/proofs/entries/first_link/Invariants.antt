@@ -1,4 +1,4 @@
--- `first_link` is `first_link`: the first entry that holds the inode. The loop's invariant: nothing before slot `i` passes the test (`Searched`).
+-- `first_link` is the definition of its name: the first entry that holds the inode. The loop's invariant: nothing before slot `i` passes the test (`Searched`).
 -- The measure is how many slots are left. Assumes nothing.
 use Prim.Native.Nat.{◌-◌}
 use Rattle.volume.specs.Volume.{entry_slots}

@@ -1,4 +1,4 @@
--- `free_entry` is `free_entry`: the first free record. The loop's invariant: nothing before `slot` passes the test (`Searched`).
+-- `free_entry` is the definition of its name: the first free record. The loop's invariant: nothing before `slot` passes the test (`Searched`).
 -- The measure is how many slots are left. Assumes nothing.
 use Prim.Native.Nat.{◌-◌}
 use Rattle.volume.specs.Volume.{entry_slots}

@@ -1,4 +1,4 @@
--- `has_entries` is `has_entries`: the search ended before the table's end. Assumes nothing.
+-- `has_entries` is the definition of its name: the search ended before the table's end. Assumes nothing.
 use mathlib.Core.Path.{ap, ◌∙◌}
 use Prim.Native.Nat.{ℕ}
 use lib.Dec.{ltb}

@@ -1,4 +1,4 @@
--- `is_held` is `is_held`: the search ended before the table's end. Assumes nothing.
+-- `is_held` is the definition of its name: the search ended before the table's end. Assumes nothing.
 use mathlib.Core.Path.{ap, ◌∙◌}
 use Prim.Native.Nat.{ℕ}
 use lib.Dec.{ltb}

@@ -1,4 +1,4 @@
--- `is_in` is `is_in`: the first test that fails ends it. Assumes nothing.
+-- `is_in` is the definition of its name: the first test that fails ends it. Assumes nothing.
 use Rattle.lists.proofs.Predicates.{predicates}
 use Rattle.lookup.proofs.entries.is_in.Goals as goal
 

@@ -1,4 +1,4 @@
--- `is_link` is `is_link`: the first test that fails ends it. Assumes nothing.
+-- `is_link` is the definition of its name: the first test that fails ends it. Assumes nothing.
 use Rattle.lists.proofs.Predicates.{predicates}
 use Rattle.lookup.proofs.entries.is_link.Goals as goal
 

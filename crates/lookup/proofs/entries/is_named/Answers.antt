@@ -1,4 +1,4 @@
--- `is_named` is `is_named`: the test that fails ends it, and that of the names is the answer. Assumes nothing.
+-- `is_named` is the definition of its name: the test that fails ends it, and that of the names is the answer. Assumes nothing.
 use mathlib.Core.Path.{sym, ◌∙◌}
 use Rattle.lists.proofs.Predicates.{and_stop, and_go}
 use Rattle.lookup.proofs.entries.is_named.Goals as goal

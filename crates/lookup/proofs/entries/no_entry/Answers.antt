@@ -1,4 +1,4 @@
--- `no_entry` is `no_entry`, by what the calls answer. Assumes nothing.
+-- `no_entry` is the definition of its name, by what the calls answer. Assumes nothing.
 use Rattle.lookup.proofs.entries.no_entry.Goals as goal
 
 pub returns : goal.returns

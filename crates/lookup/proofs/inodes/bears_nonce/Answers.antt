@@ -1,4 +1,4 @@
--- `bears_nonce` is `bears_nonce`: the first test that fails ends it. Assumes nothing.
+-- `bears_nonce` is the definition of its name: the first test that fails ends it. Assumes nothing.
 use Rattle.lists.proofs.Predicates.{predicates}
 use Rattle.volume.specs.Lookup.{bears_nonce}
 use Rattle.lookup.proofs.inodes.bears_nonce.Goals as goal

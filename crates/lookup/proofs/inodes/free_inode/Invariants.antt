@@ -1,4 +1,4 @@
--- `free_inode` is `free_inode`: the first free record. The loop's invariant: nothing before slot `i` passes the test (`Searched`).
+-- `free_inode` is the definition of its name: the first free record. The loop's invariant: nothing before slot `i` passes the test (`Searched`).
 -- The measure is how many slots are left. Assumes nothing.
 use Prim.Native.Nat.{◌-◌}
 use Rattle.volume.specs.Volume.{inode_slots}

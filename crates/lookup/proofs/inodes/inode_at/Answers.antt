@@ -1,4 +1,4 @@
--- `inode_at` is `inode_at`: within the table a read, and past its end the free record. Assumes nothing.
+-- `inode_at` is the definition of its name: within the table a read, and past its end the free record. Assumes nothing.
 use mathlib.Core.Path.{sym, ◌∙◌}
 use native.Mathlib.Omega.{arith}
 use lib.ListN.{get_or-eq_default}

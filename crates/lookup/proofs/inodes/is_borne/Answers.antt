@@ -1,4 +1,4 @@
--- `is_borne` is `is_borne`: the search ended before the table's end. Assumes nothing.
+-- `is_borne` is the definition of its name: the search ended before the table's end. Assumes nothing.
 use mathlib.Core.Path.{ap, ◌∙◌}
 use Prim.Native.Nat.{ℕ}
 use lib.Dec.{ltb}

@@ -1,4 +1,4 @@
--- `is_nonce_needed` is `is_nonce_needed`: a conjunction, returned early. Assumes nothing.
+-- `is_nonce_needed` is the definition of its name: a conjunction, returned early. Assumes nothing.
 use Rattle.volume.specs.Checks.{is_nonce_needed}
 use Rattle.lists.proofs.Predicates.{predicates}
 use Rattle.lookup.proofs.inodes.is_nonce_needed.Goals as goal

@@ -1,4 +1,4 @@
--- `no_inode` is `no_inode`, by what the call answers. Assumes nothing.
+-- `no_inode` is the definition of its name, by what the call answers. Assumes nothing.
 use Rattle.lookup.proofs.inodes.no_inode.Goals as goal
 
 pub returns : goal.returns

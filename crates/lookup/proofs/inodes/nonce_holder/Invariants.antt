@@ -1,4 +1,4 @@
--- `nonce_holder` is `nonce_holder`: the first inode with the nonce. The loop's invariant: nothing before slot `i` passes the test (`Searched`).
+-- `nonce_holder` is the definition of its name: the first inode with the nonce. The loop's invariant: nothing before slot `i` passes the test (`Searched`).
 -- The measure is how many slots are left. Assumes nothing.
 use Prim.Native.Nat.{◌-◌}
 use Rattle.volume.specs.Volume.{inode_slots}

@@ -1,4 +1,4 @@
--- `key_of` is `key_of`: within the keyring a read, and past its end the free slot. Assumes nothing.
+-- `key_of` is the definition of its name: within the keyring a read, and past its end the free slot. Assumes nothing.
 use mathlib.Core.Path.{sym, ◌∙◌, ap}
 use Prim.Native.Nat.{ℕ}
 use native.Mathlib.Omega.{arith}

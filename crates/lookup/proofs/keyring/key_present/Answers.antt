@@ -1,4 +1,4 @@
--- `key_present` is `key_present`: the size of the key that `key_of` answers. Assumes nothing.
+-- `key_present` is the definition of its name: the size of the key that `key_of` answers. Assumes nothing.
 use Rattle.volume.specs.Lookup.{key_present}
 use Rattle.lookup.proofs.keyring.key_present.Goals as goal
 

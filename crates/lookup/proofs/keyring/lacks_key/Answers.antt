@@ -1,4 +1,4 @@
--- `lacks_key` is `lacks_key` of the inode that was looked up: one without a context needs no key. Assumes nothing.
+-- `lacks_key` is the definition of its name, of the inode that was looked up: one without a context needs no key. Assumes nothing.
 use mathlib.Core.Path.{◌∙◌, ap}
 use borrow.Author.Tests.{not-true, not-false}
 use Rattle.lists.proofs.Predicates.{and_stop, and_go, flip}

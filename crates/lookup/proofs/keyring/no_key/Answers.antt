@@ -1,4 +1,4 @@
--- `no_key` is `no_key`, by what the calls answer. Assumes nothing.
+-- `no_key` is the definition of its name, by what the calls answer. Assumes nothing.
 use Rattle.lookup.proofs.keyring.no_key.Goals as goal
 
 pub returns : goal.returns

@@ -1,4 +1,4 @@
--- `on_keyring` is `on_keyring`: the first test that fails ends it. Assumes nothing.
+-- `on_keyring` is the definition of its name: the first test that fails ends it. Assumes nothing.
 use Rattle.lists.proofs.Predicates.{predicates}
 use Rattle.lookup.proofs.keyring.on_keyring.Goals as goal
 

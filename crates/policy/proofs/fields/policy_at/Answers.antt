@@ -1,4 +1,4 @@
--- `policy_at` is `policy_at`, field by field. Assumes nothing.
+-- `policy_at` is the definition of its name, field by field. Assumes nothing.
 use Rattle.policy.specs.Policies.{policy_at}
 use Rattle.policy.proofs.fields.policy_at.Goals as goal
 

@@ -22,13 +22,3 @@ loop-preserved g c =
       begun_more l.line l.p.volume l.p.used (take read.result read.new.chunk)
           a.new.line a.result.volume a.result.used l.invariant.4 a.ensures.feeds,
     )
-
-pub returns-then-p : goal.returns-then-p
-returns-then-p g c =
-    let l = c.loop in
-    let read = c.read_chunk-n in
-    let a = c.take_chunk-p in (
-      omega (arith, a.ensures.used_in_bounds),
-      begun_more l.line l.p.volume l.p.used (take read.result read.new.chunk)
-          a.new.line a.result.volume a.result.used l.invariant.4 a.ensures.feeds,
-    )
