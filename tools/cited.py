@@ -10,7 +10,6 @@ import sys
 from functools import cache
 from pathlib import Path
 
-
 ROOT = Path(__file__).resolve().parent.parent
 PAGES = [path for path in (ROOT / "README.md", *ROOT.glob("docs/*.md"), *ROOT.glob("docs/*/README.md")) if path.name != "PORT.md"]
 TREE = [path for top in ("*.*", ".ci/*", "bench/*", "crates/**/*", "docs/**/*", "tools/**/*") for path in ROOT.glob(top)
