@@ -2,8 +2,9 @@
 """Says which files, definitions, functions, edits and pages that README.md and docs/ cite are not in the tree, and exits 1 where one is not.
 
 Read are links, and spans in backquotes: `FILE: NAME, NAME` (or `FILE`: `NAME`), where FILE may lack its first directories; `CRATE::MODULE::NAME`; a path;
-an edit as `CRATE/EDIT`; a word, which has to occur somewhere. Of a path NAME and the like stand for anything. The notes of docs/changes are of their day,
-and not read. It needs Debian's python3, 3.11.
+an edit as `CRATE/EDIT`; a word, which has to occur somewhere. Of a path NAME and the like stand for anything, and what is
+built, in out/, need not be there. The notes of docs/changes and
+docs/PORT.md speak of names of their day, and are not read. It needs Debian's python3, 3.11.
 """
 import re
 import sys
@@ -11,8 +12,9 @@ from functools import cache
 from pathlib import Path
 
 ROOT = Path(__file__).resolve().parent.parent
-PAGES = [ROOT / "README.md", *ROOT.glob("docs/*.md"), *ROOT.glob("docs/*/README.md")]
-TREE = [path for top in ("*.*", ".ci/*", "bench/*", "crates/**/*", "docs/**/*", "tools/**/*") for path in ROOT.glob(top) if "__pycache__" not in path.parts]
+PAGES = [path for path in (ROOT / "README.md", *ROOT.glob("docs/*.md"), *ROOT.glob("docs/*/README.md")) if path.name != "PORT.md"]
+TREE = [path for top in ("*.*", ".ci/*", "bench/*", "crates/**/*", "docs/**/*", "tools/**/*") for path in ROOT.glob(top)
+        if not {"__pycache__", "out"} & set(path.relative_to(ROOT).parts)]
 TEXTS = [path for path in TREE if path.is_file() and path.suffix != ".md"]
 PATHS = {re.sub(r"/must-fail(/\w+)\.edit$", r"\1", str(path)): path for path in TREE}
 
@@ -35,7 +37,7 @@ def missing(span):
     if in_file := re.fullmatch(r"([\w./-]+\.(?:antt|rt|py)): (.+)", span):
         return [name for name in re.findall(r"[\w′⊕-]{2,}", in_file[2]) if not any(name in words(path) for path in standing(in_file[1]))]
     if re.fullmatch(r"[\w.*-]*/[\w./*-]*\w|[\w-]+\.(antt|rt|py|md|txt)", span):
-        return [] if standing(span) or span.startswith("target/") else [span]
+        return [] if standing(span) or "out" in span.split("/") else [span]
     if re.fullmatch(r"[A-Za-z]\w*(::\w+)+", span):
         crate, *_, name = span.split("::")
         return [] if any(name in words(path) for path in standing(f"{crate}/src/*.rt") or TEXTS) else [span]

@@ -78,12 +78,13 @@ def declared(path, line):
 
 
 def edits(log):
-    """All edits of the tree, in the log's order. Stops where one is missing, or shows nothing."""
-    written = {(path.parts[-3], path.stem) for path in ROOT.glob("crates/*/must-fail/*.edit")}
+    """All edits of the tree, by crate in the order of crates.txt. Stops where one is missing, or shows nothing."""
+    crates = re.findall(r"^(\w+)[^#\n:]*:", (ROOT / "crates.txt").read_text(), re.M)
+    written = [(crate, path.stem) for crate in crates for path in sorted(ROOT.glob(f"crates/{crate}/must-fail/*.edit"))]
     said = {(crate, name): said for crate, name, said in TRIED.findall(log)}
-    tried = [Edit(crate, name, text) for (crate, name), text in said.items() if (crate, name) in written]
-    if missing := sorted("/".join(each) for each in written - said.keys()):
+    if missing := ["/".join(each) for each in written if each not in said]:
         sys.exit(f"the log is not of a gate on this tree: it has nothing of {', '.join(missing)}")
+    tried = [Edit(*each, said[each]) for each in written]
     if wrong := [f"{edit.crate}/{edit.name} shows nothing: {edit.wrong}" for edit in tried if edit.wrong]:
         sys.exit("\n".join(wrong))
     return tried
