@@ -1,10 +1,9 @@
 #!/usr/bin/env python3
 """Says which files, definitions, functions, edits and pages that README.md and docs/ cite are not in the tree, and exits 1 where one is not.
 
-Read are links, and spans in backquotes: `FILE: NAME, NAME` (or `FILE`: `NAME`), where FILE may lack its first directories; `CRATE::MODULE::NAME`; a path;
-an edit as `CRATE/EDIT`; a word, which has to occur somewhere. Of a path NAME and the like stand for anything, and what is
-built, in out/, need not be there. The notes of docs/changes and
-docs/PORT.md speak of names of their day, and are not read. It needs Debian's python3, 3.11.
+Read are links, and spans in backquotes: `FILE: NAME, NAME` (or `FILE`: `NAME`), where FILE may lack its first directories; `CRATE::MODULE::NAME`; a path; an edit as
+`CRATE/EDIT`; a word, which has to occur somewhere. Of a path NAME and the like stand for anything, and what is built, in out/, need not be there. The notes of
+docs/changes and docs/PORT.md speak of names of their day, and are not read. It needs Debian's python3, 3.11.
 """
 import re
 import sys
