@@ -1,4 +1,4 @@
-// The ciphers for programs in C and Rust. `rt lib` in this crate's folder proves it and writes out/libcapi.a, which defines these names.
+// The ciphers for programs in C and Rust. `rt lib` in this crate's directory proves it and writes out/libcapi.a, which defines these names.
 // Each function only calls the one of its name in ciphers, and answers its errno: 0, or 22 (EINVAL) where a length is wrong, and then the buffer is as
 // it was. A caller need test nothing. A slice is passed as the address of its first byte and then its length: bulwarkle.h beside src/ declares
 // them for C.
