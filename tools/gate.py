@@ -28,7 +28,8 @@ REFUSED = "refused, as it must be"
 AT_LIMIT = "(only by a limit of the prover"
 # what the gate says of it: a file, a line and a column; of an error then the goal or law
 FIRST = re.compile(r"(?:note: )?(?:\./)?((?:src|specs|proofs)/\S+?):(\d+):\d+: (?:error(?:\[[\w-]+\])?: (?:`([^`]+)`)?)?")
-FUNCTION = re.compile(r'\s*(?:pub(?:\(\w+\))? )?(?:extern "C" )?fn (\w+)')
+FUNCTION = re.compile(r'(\s*)(?:pub(?:\(\w+\))? )?(?:extern "C" )?fn (\w+)')
+IMPL = re.compile(r"impl\b(?:<[^>]*>)? (?:.* for )?(.+?) \{")
 
 # said of a text that is wrong by itself, so that nothing was asked of the proof
 UNFIT = ("only because a proof file names", "is not in scope", "that can be named from here", "has no field", "BAD EDIT")
@@ -72,9 +73,16 @@ class Edit(NamedTuple):
 
 
 def declared(path, line):
-    """The function that a line of a source file belongs to."""
-    found = [match[1] for match in map(FUNCTION.match, path.read_text().splitlines()[:line]) if match]
-    return found[-1] if found else "?"
+    """The function that a line of a source file belongs to, a method after its type. An attribute belongs to the function below it."""
+    lines = path.read_text().splitlines()
+    while line < len(lines) and lines[line - 1].lstrip().startswith("#["):
+        line += 1
+    lines = lines[:line]
+    found = [match for match in map(FUNCTION.match, lines) if match]
+    if not found:
+        return "?"
+    types = [match[1] for match in map(IMPL.match, lines) if match]
+    return f"{types[-1]}::{found[-1][2]}" if found[-1][1] and types else found[-1][2]
 
 
 def edits(log):

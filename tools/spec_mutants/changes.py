@@ -2,7 +2,7 @@
 
 import re
 
-from .tables import EXCHANGES, MOST_ALIKE
+from .tables import EXCHANGES, MOST_ALIKE, PASSED
 
 NUMBER = re.compile(r"(?<![\w.'₁₂-])(0x[0-9a-f]+|\d+)(?![\w])")
 FIELD = re.compile(r"(?<=[\w')])\.([a-zA-Z]\w*)")
@@ -177,10 +177,10 @@ def table_lines(spot):
         rows.append((at, at + len(line)))
         at += len(line) + 1
     for (a, b), (c, d) in zip(rows, rows[1:]):
-        if spot.text[c:d].strip() != "Fine":
+        if spot.text[c:d].strip() != PASSED:
             yield "swap-lines", a, d, spot.text[c:d] + "\n" + spot.text[a:b]
         yield "delete-line", a, c, ""
     a, b = rows[-1]
-    if spot.text[a:b].strip() != "Fine":
+    if spot.text[a:b].strip() != PASSED:
         indent = len(spot.text[a:b]) - len(spot.text[a:b].lstrip())
-        yield "delete-line", a, b, " " * indent + "Fine"
+        yield "delete-line", a, b, " " * indent + PASSED

@@ -3,7 +3,7 @@
 import re
 from typing import NamedTuple
 
-from .tables import STATEMENT_FILES, STATEMENTS
+from .tables import ALIASES, LIBRARY_CONSTRUCTORS, LIBRARY_TYPES, STATEMENT_FILES, STATEMENTS
 from .tree import alias, split
 
 HEAD = re.compile(r"( *)(?:(?:abbrev|unfoldable) )?pub ([^\s:]+) : (.*)$")
@@ -121,7 +121,7 @@ def _variables(patterns, types, body, known):
 def _bind(pattern, kind, known, found):
     """Adds the variables of a pattern of this type."""
     if not pattern.startswith("("):
-        if pattern not in known.constructors and pattern not in ("zero", "[]", "true", "false", "none"):
+        if pattern not in known.constructors and pattern not in LIBRARY_CONSTRUCTORS:
             found[pattern] = kind
         return
     inner = pattern[1:-1]
@@ -133,5 +133,11 @@ def _bind(pattern, kind, known, found):
         _bind(cells[-1], kind, known, found)
         return
     word, *rest = split(inner, " ")
-    for part, each in zip(rest, known.constructors.get(word, [])):
+    for part, each in zip(rest, known.constructors.get(word) or _of_library(word, kind)):
         _bind(part, each, known, found)
+
+
+def _of_library(word, kind):
+    """What a constructor of a library's type binds."""
+    name, *parameters = split(ALIASES.get(kind, kind), " ")
+    return [parameters[at] for at in LIBRARY_TYPES.get(name, {}).get(word, []) if at < len(parameters)]

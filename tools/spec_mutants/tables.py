@@ -10,7 +10,8 @@ EXAMPLES = {"Example", "Occasions", "Values", "KeyedExample", "MeaningsExample",
 
 # Files of specs/ that state what is proved: what a test means, when a request is done and what it does, worked cases, what may differ between two runs. A weaker
 # statement is still proved, so a change there tells nothing of the definitions.
-STATEMENT_FILES = {"Cases", "Claims", "Does", "DoneWhen", "Meanings", "RoundTrips", "TwoRuns", "UnderKeys"}
+# "Found" and "Shown" say what functions answer where a definition has a number or a test: they stand in contracts, which a theory has not.
+STATEMENT_FILES = {"Cases", "Claims", "Does", "DoneWhen", "Found", "Meanings", "RoundTrips", "Shown", "TwoRuns", "UnderKeys"}
 
 # Definitions elsewhere that are parts of statements alone, though they are values. Definitions that are types, and records, need not stand here:
 # whatever has a type as its value is a statement or a part of one.
@@ -30,6 +31,18 @@ EXCHANGES = {
     "take-drop": (("take", "drop"), ("drop", "take")),
     "operator": (("&&", "||"), ("||", "&&"), ("+", "-"), ("-", "+"), ("*", "+"), ("/", "%"), ("%", "/")),
 }
+
+# What a table of checks that was passed comes to: a table's last line, where it is no further table.
+PASSED = "fine"
+
+# What the constructors of the library's types bind, by the types' names; of a parameter its place.
+LIBRARY_TYPES = {"Option": {"Some": [0]}, "Result": {"Ok": [0], "Err": [1]}}
+
+# Names for such types.
+ALIASES = {"Checked": "Result ⊤ Errno"}
+
+# Constructors of the library that bind nothing.
+LIBRARY_CONSTRUCTORS = ("zero", "[]", "true", "false", "none", "None", "tt")
 
 # Families of constructors or fields of one type that are larger than this: each is exchanged for the next one alone, not for all others.
 MOST_ALIKE = 3

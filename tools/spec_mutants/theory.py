@@ -17,37 +17,42 @@ from .checking import errors, prove
 
 _NAME = "bulwarkle-theory-" + hashlib.sha256(str(tree.ROOT).encode()).hexdigest()[:8]
 DIRECTORY = Path(os.environ.get("THEORY") or Path(tempfile.gettempdir()) / _NAME)
-FUNCTION = re.compile(r'(pub(\(crate\))? )?(extern "C" )?fn |impl ')
+FUNCTION = re.compile(r'(pub(\(crate\))? )?(extern "C" )?fn |impl\b|(pub(\(crate\))? )?trait ')
 USE_OF_FUNCTION = re.compile(r"(pub )?use (.*::)?[a-z_0-9]+;$")
+TRAIT = re.compile(r"^(?:pub(?:\(crate\))? )?trait (\w+)", re.M)
+USE_LIST = re.compile(r"^((?:pub )?use [^;{]*\{)([^}]*)(\};)$", re.M)
 
 
 class NotProved(Exception):
     """A theory whose laws fail without any change."""
 
 
-def without_functions(text):
-    """The items of a source file that are no functions; of its `use` items those of types."""
+def without_functions(text, traits=()):
+    """The items of a source file that are no functions, no impls and no traits; of its `use` items those of types."""
     kept, inside = [], False
     for line in text.split("\n"):
         if inside:
             inside = line not in ("}", "{}")
         elif FUNCTION.match(line):
             inside = not line.rstrip().endswith(";")
+        elif line.startswith("#![tactic("):
+            kept.append("#![tactic(auto)]")  # without the laws that it names for functions
         elif not USE_OF_FUNCTION.match(line) and not line.startswith(("ghost use ", "#[")) or line.startswith("#[derive("):
             kept.append(line)
-    return "\n".join(kept)
+    return USE_LIST.sub(lambda use: use[1] + ", ".join(name for name in re.split(r",\s*", use[2].strip()) if name not in traits) + use[3], "\n".join(kept))
 
 
 def texts():
     """The files of a theory, as the repository has them now, by their paths."""
     crates = tree.theory_crates()
     found = {"crates.txt": "".join(f"{name}: {' '.join(below)}\n" for name, below in crates.items())}
+    traits = {trait for name in crates for path in tree.sources(name) for trait in TRAIT.findall(path.read_text())}
     for name in crates:
         lib = [path / "Lib.antt" for path in (tree.ROOT / "crates" / name / "specs",) if path.is_dir()]
         for path in [*lib, *tree.specs(name), *tree.laws(name)]:
             found[str(path.relative_to(tree.ROOT))] = path.read_text()
         for path in tree.sources(name):
-            found[str(path.relative_to(tree.ROOT))] = without_functions(path.read_text())
+            found[str(path.relative_to(tree.ROOT))] = without_functions(path.read_text(), traits)
     return found
 
 

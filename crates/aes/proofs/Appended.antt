@@ -13,13 +13,13 @@ use Rattle.aes.specs.declared.State.{State}
 -- ---- a list whose first bytes have been replaced by as many others, seam after seam
 
 module _ (A l : List ℕ) (n : ℕ) (e : length A ≡ n) where
-  pub get_d_seam : (j d : ℕ) → n ≤ j → get_or (A ++ drop n l) j d ≡ get_or l j d
+  get_d_seam : (j d : ℕ) → n ≤ j → get_or (A ++ drop n l) j d ≡ get_or l j d
   get_d_seam j d h =
       let m : length A + (j - n) ≡ j = omega arith in
       let m' : n + (j - n) ≡ j = omega arith in
       ap (λ (k : ℕ). get_or (A ++ drop n l) k d) (sym m) ∙ get_or-append-add A (drop n l) (j - n) d ∙ get_or-drop n l (j - n) d ∙ ap (λ (k : ℕ). get_or l k d) m'
 
-  pub word_seam : (j : ℕ) → n ≤ j → word_at (A ++ drop n l) j ≡ word_at l j
+  word_seam : (j : ℕ) → n ≤ j → word_at (A ++ drop n l) j ≡ word_at l j
   unfolding word_at
   word_seam j h = cc (get_d_seam j 0 h, get_d_seam (j + 1) 0 (omega arith), get_d_seam (j + 2) 0 (omega arith), get_d_seam (j + 3) 0 (omega arith))
 

@@ -3,7 +3,7 @@ pub mod ByteStates
 pub mod Inverse
 pub mod ScheduleBytes
 pub mod Appended
-pub mod PutAt
-pub mod Schedule
 pub mod MixColumns
 mod Rounds
+mod PutAt
+mod Schedule

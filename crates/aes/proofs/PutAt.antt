@@ -2,26 +2,14 @@
 use mathlib.Core.Path.{◌≡◌, refl, sym, ap, ap₂, ◌∙◌}
 use mathlib.Core.List.{List, ◌++◌, append_assoc}
 use Prim.Native.Nat.{ℕ, ◌+◌, ◌≤◌}
-use native.Mathlib.Numerals.{add-one, add-two, add-three}
 use native.Mathlib.Omega.{arith}
-use lib.ListN.{length, take, drop, set, length-append, length-take, length-drop, replicate}
-use lib.Seq.{sets-eq, take_at, drop-drop, drop-append-add}
+use lib.ListN.{length, take, drop, length-append, length-take}
+use lib.Seq.{take_at, drop-drop, drop-append-add}
 use Rattle.aes.specs.Bytes.{put_at, word_bytes, state_bytes}
-use Rattle.aes.specs.declared.Word.{Word}
 use Rattle.aes.specs.declared.State.{State}
 
--- four stores in a row
-pub stores : (l : List ℕ) (i : ℕ) (w : Word) → i + 4 ≤ length l
-    → set (set (set (set l i w.r0) (i + 1) w.r1) (i + 2) w.r2) (i + 3) w.r3 ≡ put_at l i (word_bytes w)
-unfolding put_at
-stores l i w h = rw (add-one, add-two, add-three) (sets-eq (word_bytes w) l i h)
-
-pub length_put_at : (l : List ℕ) (i : ℕ) (xs : List ℕ) → i + length xs ≤ length l → length (put_at l i xs) ≡ length l
-unfolding put_at
-length_put_at l i xs h = simp (length-append, length-take, length-drop) (omega arith)
-
 -- bytes put after bytes that were put
-pub put_at_put_at : (l : List ℕ) (i : ℕ) (xs ys : List ℕ) (j : ℕ) → j ≡ i + length xs → j + length ys ≤ length l
+put_at_put_at : (l : List ℕ) (i : ℕ) (xs ys : List ℕ) (j : ℕ) → j ≡ i + length xs → j + length ys ≤ length l
     → put_at (put_at l i xs) j ys ≡ put_at l i (xs ++ ys)
 unfolding put_at
 put_at_put_at l i xs ys j e h =
@@ -46,11 +34,6 @@ put_four l i s l₁ l₂ l₃ l₄ h e₁ e₂ e₃ e₄ =
     let f₂ : l₂ ≡ put_at l i (w₀ ++ w₁) = e₂ ∙ ap (λ (x : List ℕ). put_at x (i + 4) w₁) e₁ ∙ put_at_put_at l i w₀ w₁ (i + 4) refl (omega arith) in
     let f₃ : l₃ ≡ put_at l i (w₀ ++ w₁ ++ w₂) = e₃ ∙ ap (λ (x : List ℕ). put_at x (i + 8) w₂) f₂ ∙ put_at_put_at l i (w₀ ++ w₁) w₂ (i + 8) refl (omega arith) in
     e₄ ∙ ap (λ (x : List ℕ). put_at x (i + 12) w₃) f₃ ∙ put_at_put_at l i (w₀ ++ w₁ ++ w₂) w₃ (i + 12) refl (omega arith)
-
--- a block in an array of its own
-pub alone : (s : State) (t : List ℕ) → t ≡ put_at (replicate 16 0) 0 (state_bytes s) → t ≡ state_bytes s
-unfolding put_at state_bytes
-alone s t e = e
 
 pub take_put_at : (l : List ℕ) (i : ℕ) (xs : List ℕ) (n : ℕ) → n ≡ i + length xs → i ≤ length l → take n (put_at l i xs) ≡ take i l ++ xs
 unfolding put_at

@@ -1,56 +1,23 @@
 -- How the expansion goes on, in the terms in which code counts. Assumes nothing.
 use mathlib.Core.Path.{◌≡◌, refl, sym, ap, ap₂, ◌∙◌}
 use mathlib.Core.List.{List, ◌++◌}
-use Prim.Native.Nat.{ℕ, zero, suc, ◌+◌, ◌-◌, ◌*◌, ◌/◌, ◌%◌, ◌≤◌, ◌<◌}
+use Prim.Native.Nat.{ℕ, zero, suc, ◌+◌, ◌-◌, ◌*◌, ◌/◌, ◌≤◌}
 use native.Mathlib.Numerals.{add-one}
-use native.Mathlib.Nat.{mul-suc, zero-add, le-div_iff_mul-le, div-le_self}
+use native.Mathlib.Nat.{mul-suc, zero-add}
 use native.Mathlib.Decide.{dec_lt}
-use borrow.Author.Tests.{eq-eqb, ne_eqb, lt-ltb, le-ltb}
+use borrow.Author.Tests.{lt-ltb, le-ltb}
 use native.Mathlib.Omega.{arith}
-use lib.ListN.{length, drop, length-append}
+use lib.ListN.{length, take, drop, length-append}
 use Rattle.field.specs.Field.{x_times}
-use Rattle.aes.specs.Words.{word_at, add_word, sub_word, rot_word}
 use Rattle.aes.specs.Bytes.{word_bytes, put_at}
-use Rattle.aes.specs.KeyExpansion.{x_power, rcon, temp, next_word, expanded, key_expansion}
+use Rattle.aes.specs.KeyExpansion.{x_power, next_word, expanded, key_expansion}
 use Rattle.aes.specs.declared.Word.{Word}
 use Rattle.aes.proofs.Appended.{put_seam, front}
+use Rattle.aes.proofs.PutAt.{take_put_at}
 
 pub x_power_next : (i : ℕ) → x_power (i + 1) ≡ x_times (x_power i)
 unfolding x_power
 x_power_next i = rw add-one
-
--- ---- the cases of a word
-
-pub temp_zero : (nk i : ℕ) (r u v k t : Word) → i % nk ≡ 0 → u ≡ rot_word t → v ≡ sub_word u → k ≡ rcon (i / nk) → r ≡ add_word v k → r ≡ temp nk i t
-unfolding temp
-temp_zero nk i r u v k t h eu ev ek er = simp (eq-eqb (i % nk) 0 h) (cc)
-
-pub temp_four : (nk i : ℕ) (r t : Word) → (i % nk ≡ 0 → ⊥) → 6 < nk → i % nk ≡ 4 → r ≡ sub_word t → r ≡ temp nk i t
-unfolding temp
-temp_four nk i r t h g f er = simp (ne_eqb (i % nk) 0 h, lt-ltb 6 nk g, eq-eqb (i % nk) 4 f) er
-
-pub temp_other : (nk i : ℕ) (t : Word) → (i % nk ≡ 0 → ⊥) → 6 < nk → (i % nk ≡ 4 → ⊥) → t ≡ temp nk i t
-unfolding temp
-temp_other nk i t h g f = simp (ne_eqb (i % nk) 0 h, lt-ltb 6 nk g, ne_eqb (i % nk) 4 f)
-
-pub temp_short : (nk i : ℕ) (t : Word) → (i % nk ≡ 0 → ⊥) → nk ≤ 6 → t ≡ temp nk i t
-unfolding temp
-temp_short nk i t h g = simp (ne_eqb (i % nk) 0 h, le-ltb 6 nk g)
-
-pub rcon_index : (nk i : ℕ) → 4 ≤ nk → nk ≤ i → i < 64 → (1 ≤ i / nk) × (i / nk < 64)
-rcon_index nk i h g f =
-    let p : 1 * nk ≤ i = omega arith in
-    let q : 0 < nk = omega arith in
-    ((le-div_iff_mul-le q).1 p, omega (arith, div-le_self i nk))
-
-pub next_word_key : (nk i : ℕ) (key w : List ℕ) (r : Word) → i < nk → r ≡ word_at key (4 * i) → r ≡ next_word nk key w i
-unfolding next_word
-next_word_key nk i key w r h e = simp (lt-ltb i nk h) e
-
-pub next_word_later : (nk i : ℕ) (key w : List ℕ) (r u p q : Word) → nk ≤ i → p ≡ word_at w (4 * i - 4) → u ≡ temp nk i p → q ≡ word_at w (4 * (i - nk)) → r ≡ add_word q u
-    → r ≡ next_word nk key w i
-unfolding next_word
-next_word_later nk i key w r u p q h ep eu eq er = simp (le-ltb i nk h) (cc)
 
 -- ---- the words so far, before those that the list had
 
@@ -88,12 +55,18 @@ pub length_key_expansion : (key : List ℕ) → length (key_expansion key) ≡ 1
 unfolding key_expansion
 length_key_expansion key = omega (arith, length_expanded (length key / 4) key (4 * (length key / 4 + 6 + 1)))
 
-pub expand_end : (key l₀ l : List ℕ) (nk i : ℕ) → nk ≡ length key / 4 → l ≡ expanded nk key i ++ drop (4 * i) l₀ → i ≡ 4 * (nk + 7) → l ≡ put_at l₀ 0 (key_expansion key)
+pub expanded_all : (key l₀ : List ℕ) (i : ℕ) → i ≡ 4 * (length key / 4 + 7) → expanded (length key / 4) key i ++ drop (4 * i) l₀ ≡ put_at l₀ 0 (key_expansion key)
 unfolding put_at key_expansion
-expand_end key l₀ l nk i en e h =
+expanded_all key l₀ i h =
     let m : 4 * i ≡ length (key_expansion key) = omega (arith, length_key_expansion key) in
     let n : i ≡ 4 * (length key / 4 + 6 + 1) = omega arith in
-    e ∙ ap₂ (λ (x : List ℕ) (k : ℕ). x ++ drop k l₀) (ap₂ (λ (a b : ℕ). expanded a key b) en n ∙ whole) (m ∙ sym (zero-add (length (key_expansion key))))
+    ap₂ (λ (x : List ℕ) (k : ℕ). x ++ drop k l₀) (ap (expanded (length key / 4) key) n ∙ whole) (m ∙ sym (zero-add (length (key_expansion key))))
   where
     whole : expanded (length key / 4) key (4 * (length key / 4 + 6 + 1)) ≡ key_expansion key
     whole = refl
+
+-- the bytes up to the last round key are the expanded key
+pub schedule_bytes : (key l₀ l : List ℕ) → l ≡ put_at l₀ 0 (key_expansion key) → take (16 * (length key / 4 + 6 + 1)) l ≡ key_expansion key
+schedule_bytes key l₀ l e =
+    let m : 16 * (length key / 4 + 6 + 1) ≡ 0 + length (key_expansion key) = omega (arith, length_key_expansion key) in
+    ap (take (16 * (length key / 4 + 6 + 1))) e ∙ take_put_at l₀ 0 (key_expansion key) (16 * (length key / 4 + 6 + 1)) m (omega arith)

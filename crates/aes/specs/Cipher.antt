@@ -1,17 +1,11 @@
 -- Cipher and InvCipher, FIPS 197 sections 5.1 and 5.3, over the key schedule w, as bytes, and the number of rounds nr. Assumes nothing.
-use Rattle.std.specs.Prelude.{List, ◌≡◌, ℕ, zero, suc, ◌+◌, ◌-◌, ◌*◌, ◌≤◌, ◌<◌, length}
+use Rattle.std.specs.Prelude.{List, ℕ, zero, suc, ◌-◌, ◌*◌}
 use Rattle.aes.specs.States.{sub_bytes, inv_sub_bytes, shift_rows, inv_shift_rows, mix_columns, inv_mix_columns, add_round_key, state_at}
 use Rattle.aes.specs.declared.State.{State}
 
 -- the round key of round i: w[4 i] to w[4 i + 3], 16 bytes of the key schedule
 unfoldable pub round_key : List ℕ → ℕ → State
 round_key w i = state_at w (16 * i)
-
--- what code is lent: the table, SBox() or InvSBox(), that it is to look up, and a key schedule with the round keys 0 to i, of 14 at most
-pub record Keyed (expected lent w : List ℕ) (i : ℕ) : Type 0 where
-  pub table : lent ≡ expected
-  pub few : i < 15
-  pub whole : 16 * i + 16 ≤ length w
 
 -- ---- Cipher, algorithm 1
 

@@ -4,3 +4,4 @@ pub mod States
 pub mod Bytes
 pub mod Cipher
 pub mod KeyExpansion
+pub mod Schedule

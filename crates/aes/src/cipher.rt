@@ -1,66 +1,92 @@
 // Cipher and InvCipher, FIPS 197 sections 5.1 and 5.3, over a key schedule.
-ghost use Rattle.std.specs.Prelude.{◌≡◌};
-ghost use Rattle.field.specs.SBox.{s_box_table, inv_s_box_table};
+#![tactic(auto, unfolding(crate::specs::Cipher::round, crate::specs::Cipher::last_round, crate::specs::Cipher::inv_round, crate::specs::Cipher::inv_last_round))]
+
+ghost use Rattle.std.specs.Prelude.{◌≡◌, ◌≤◌};
 ghost use Rattle.aes.specs.Cipher;
+ghost use Rattle.aes.specs.Schedule.{Schedule};
+ghost use Rattle.aes.specs.declared.State.{State};
 
-use crate::{State, states};
+use crate::{KeySchedule, State};
 
-fn round(sbox: &[u8; 256], w: &[u8], i: usize, s: State) -> State
-    requires { Cipher.Keyed s_box_table sbox.now w.now i }
-    ensures { result ≡ Cipher.round w.now i s }
-{
-    let mixed = states::mix_columns(states::shift_rows(states::sub_bytes(sbox, s)));
-    states::add_round_key(mixed, states::load(w, 16 * i))
-}
-
-fn last_round(sbox: &[u8; 256], w: &[u8], i: usize, s: State) -> State
-    requires { Cipher.Keyed s_box_table sbox.now w.now i }
-    ensures { result ≡ Cipher.last_round w.now i s }
-{
-    let shifted = states::shift_rows(states::sub_bytes(sbox, s));
-    states::add_round_key(shifted, states::load(w, 16 * i))
-}
-
-// Cipher, FIPS 197 algorithm 1: nr rounds over a key schedule w of nr + 1 round keys.
-pub fn cipher(sbox: &[u8; 256], w: &[u8], nr: usize, s: State) -> State
-    requires { Cipher.Keyed s_box_table sbox.now w.now nr }
-    ensures { result ≡ Cipher.cipher w.now nr s }
-{
-    let mut t = states::add_round_key(s, states::load(w, 0));
-    let mut i: usize = 0;
-    while i + 1 < nr {
-        t = round(sbox, w, i + 1, t);
-        i += 1;
+impl KeySchedule {
+    fn round(&self, i: usize, s: State) -> State
+        requires { i ≤ self.now.rounds }
+        ensures { result ≡ Cipher.round self.now.bytes i s }
+    {
+        s.sub_bytes().shift_rows().mix_columns() ^ self.round_key(i)
     }
-    last_round(sbox, w, nr, t)
-}
 
-fn inv_round(inv_sbox: &[u8; 256], w: &[u8], i: usize, s: State) -> State
-    requires { Cipher.Keyed inv_s_box_table inv_sbox.now w.now i }
-    ensures { result ≡ Cipher.inv_round w.now i s }
-{
-    let subbed = states::inv_sub_bytes(inv_sbox, states::inv_shift_rows(s));
-    states::inv_mix_columns(states::add_round_key(subbed, states::load(w, 16 * i)))
-}
-
-fn inv_last_round(inv_sbox: &[u8; 256], w: &[u8], s: State) -> State
-    requires { Cipher.Keyed inv_s_box_table inv_sbox.now w.now 0 }
-    ensures { result ≡ Cipher.inv_last_round w.now s }
-{
-    let subbed = states::inv_sub_bytes(inv_sbox, states::inv_shift_rows(s));
-    states::add_round_key(subbed, states::load(w, 0))
-}
-
-// InvCipher, FIPS 197 algorithm 3.
-pub fn inv_cipher(inv_sbox: &[u8; 256], w: &[u8], nr: usize, s: State) -> State
-    requires { Cipher.Keyed inv_s_box_table inv_sbox.now w.now nr }
-    ensures { result ≡ Cipher.inv_cipher w.now nr s }
-{
-    let mut t = states::add_round_key(s, states::load(w, 16 * nr));
-    let mut i = nr;
-    while 1 < i {
-        i -= 1;
-        t = inv_round(inv_sbox, w, i, t);
+    fn last_round(&self, s: State) -> State
+        ensures { result ≡ Cipher.last_round self.now.bytes self.now.rounds s }
+    {
+        s.sub_bytes().shift_rows() ^ self.round_key(self.rounds())
     }
-    inv_last_round(inv_sbox, w, t)
+
+    // Cipher, FIPS 197 algorithm 1.
+    #[tactic(auto, using(crate::proofs::Rounds::rounds_none, crate::proofs::Rounds::rounds_turn), unfolding(crate::specs::Cipher::cipher))]
+    pub fn encipher(&self, s: State) -> State
+        ensures { result ≡ Cipher.cipher self.now.bytes self.now.rounds s }
+    {
+        let mut t = s ^ self.round_key(0);
+        for i in 1..self.rounds() {
+            t = self.round(i, t);
+        }
+        self.last_round(t)
+    }
+
+    fn inv_round(&self, i: usize, s: State) -> State
+        requires { i ≤ self.now.rounds }
+        ensures { result ≡ Cipher.inv_round self.now.bytes i s }
+    {
+        let subbed = s.inv_shift_rows().inv_sub_bytes();
+        (subbed ^ self.round_key(i)).inv_mix_columns()
+    }
+
+    fn inv_last_round(&self, s: State) -> State
+        ensures { result ≡ Cipher.inv_last_round self.now.bytes s }
+    {
+        s.inv_shift_rows().inv_sub_bytes() ^ self.round_key(0)
+    }
+
+    // InvCipher, FIPS 197 algorithm 3.
+    #[tactic(auto, using(crate::proofs::Rounds::inv_rounds_turn, crate::proofs::Rounds::inv_rounds_none), unfolding(crate::specs::Cipher::inv_cipher))]
+    pub fn decipher(&self, s: State) -> State
+        ensures { result ≡ Cipher.inv_cipher self.now.bytes self.now.rounds s }
+    {
+        let mut t = s ^ self.round_key(self.rounds());
+        for i in (1..self.rounds()).rev() {
+            t = self.inv_round(i, t);
+        }
+        self.inv_last_round(t)
+    }
+}
+
+// A direction of the cipher, which a mode of operation is built on: what a key schedule makes of a block.
+pub trait BlockCipher {
+    ghost block: { Schedule → State → State };
+
+    fn apply(schedule: &KeySchedule, s: State) -> State
+        ensures { result ≡ block schedule.now s };
+}
+
+// Cipher.
+pub struct Encipher;
+
+// InvCipher.
+pub struct Decipher;
+
+impl BlockCipher for Encipher {
+    ghost block = { λ k. Cipher.cipher k.bytes k.rounds };
+
+    fn apply(schedule: &KeySchedule, s: State) -> State {
+        schedule.encipher(s)
+    }
+}
+
+impl BlockCipher for Decipher {
+    ghost block = { λ k. Cipher.inv_cipher k.bytes k.rounds };
+
+    fn apply(schedule: &KeySchedule, s: State) -> State {
+        schedule.decipher(s)
+    }
 }

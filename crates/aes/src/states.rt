@@ -1,20 +1,26 @@
 // The state and its transformations, FIPS 197 sections 5.1.1 to 5.1.4 and 5.3.1 to 5.3.4.
+#![tactic(auto, unfolding(crate::specs::States::sub_bytes, crate::specs::States::inv_sub_bytes, crate::specs::States::shift_rows, crate::specs::States::inv_shift_rows, crate::specs::States::mix_columns, crate::specs::States::inv_mix_columns, crate::specs::States::add_round_key, crate::specs::States::state_at))]
+
 ghost use Rattle.std.specs.Prelude.{◌≡◌, ◌+◌, ◌≤◌, length};
 ghost use Rattle.aes.specs.States.{sub_bytes, inv_sub_bytes, shift_rows, inv_shift_rows, mix_columns, inv_mix_columns, add_round_key, state_at};
-ghost use Rattle.field.specs.SBox.{s_box_table, inv_s_box_table};
 ghost use Rattle.aes.specs.Bytes.{put_at, state_bytes};
 
-use crate::{State, Word, words};
+use crate::{State, Word};
+use std::ops::BitXor;
 
-pub fn sub_bytes(sbox: &[u8; 256], s: State) -> State
-    requires { sbox.now ≡ s_box_table }
-    ensures { result ≡ sub_bytes s }
-{
-    State {
-        c0: words::sub_word(sbox, s.c0),
-        c1: words::sub_word(sbox, s.c1),
-        c2: words::sub_word(sbox, s.c2),
-        c3: words::sub_word(sbox, s.c3),
+// AddRoundKey, and the sum of two blocks: byte by byte.
+impl BitXor for State {
+    type Output = State;
+
+    ghost bitxor_gives = { λ s k sum. sum ≡ add_round_key s k };
+
+    fn bitxor(self, k: State) -> State {
+        State {
+            c0: self.c0 ^ k.c0,
+            c1: self.c1 ^ k.c1,
+            c2: self.c2 ^ k.c2,
+            c3: self.c3 ^ k.c3,
+        }
     }
 }
 
@@ -29,91 +35,92 @@ fn diagonal(p: Word, q: Word, r: Word, s: Word) -> Word
     }
 }
 
-pub fn shift_rows(s: State) -> State
-    ensures { result ≡ shift_rows s }
-{
-    State {
-        c0: diagonal(s.c0, s.c1, s.c2, s.c3),
-        c1: diagonal(s.c1, s.c2, s.c3, s.c0),
-        c2: diagonal(s.c2, s.c3, s.c0, s.c1),
-        c3: diagonal(s.c3, s.c0, s.c1, s.c2),
+impl State {
+    // The state of f's answers to each column, as Word::map is of a word's bytes: FIPS 197 has names of their own for rows and columns, so they are two types.
+    fn map<F: Fn(Word) -> Word>(self, f: F) -> State
+        requires { F.IsAlwaysCallable f }
+        ensures c0 { F.post f self.c0 result.c0 }
+        ensures c1 { F.post f self.c1 result.c1 }
+        ensures c2 { F.post f self.c2 result.c2 }
+        ensures c3 { F.post f self.c3 result.c3 }
+    {
+        State {
+            c0: f(self.c0),
+            c1: f(self.c1),
+            c2: f(self.c2),
+            c3: f(self.c3),
+        }
     }
-}
 
-pub fn mix_columns(s: State) -> State
-    ensures { result ≡ mix_columns s }
-{
-    State {
-        c0: words::mix_column(s.c0),
-        c1: words::mix_column(s.c1),
-        c2: words::mix_column(s.c2),
-        c3: words::mix_column(s.c3),
+    pub fn sub_bytes(self) -> State
+        ensures { result ≡ sub_bytes self }
+    {
+        self.map(Word::sub)
     }
-}
 
-pub fn add_round_key(s: State, k: State) -> State
-    ensures { result ≡ add_round_key s k }
-{
-    State {
-        c0: words::add_word(s.c0, k.c0),
-        c1: words::add_word(s.c1, k.c1),
-        c2: words::add_word(s.c2, k.c2),
-        c3: words::add_word(s.c3, k.c3),
+    pub fn inv_sub_bytes(self) -> State
+        ensures { result ≡ inv_sub_bytes self }
+    {
+        self.map(Word::inv_sub)
     }
-}
 
-pub fn load(s: &[u8], at: usize) -> State
-    requires { at + 16 ≤ length s.now }
-    ensures { result ≡ state_at s.now at }
-{
-    State {
-        c0: words::load(s, at),
-        c1: words::load(s, at + 4),
-        c2: words::load(s, at + 8),
-        c3: words::load(s, at + 12),
+    pub fn mix_columns(self) -> State
+        ensures { result ≡ mix_columns self }
+    {
+        self.map(Word::mix)
     }
-}
 
-pub fn inv_sub_bytes(inv_sbox: &[u8; 256], s: State) -> State
-    requires { inv_sbox.now ≡ inv_s_box_table }
-    ensures { result ≡ inv_sub_bytes s }
-{
-    State {
-        c0: words::inv_sub_word(inv_sbox, s.c0),
-        c1: words::inv_sub_word(inv_sbox, s.c1),
-        c2: words::inv_sub_word(inv_sbox, s.c2),
-        c3: words::inv_sub_word(inv_sbox, s.c3),
+    pub fn inv_mix_columns(self) -> State
+        ensures { result ≡ inv_mix_columns self }
+    {
+        self.map(Word::inv_mix)
     }
-}
 
-pub fn inv_shift_rows(s: State) -> State
-    ensures { result ≡ inv_shift_rows s }
-{
-    State {
-        c0: diagonal(s.c0, s.c3, s.c2, s.c1),
-        c1: diagonal(s.c1, s.c0, s.c3, s.c2),
-        c2: diagonal(s.c2, s.c1, s.c0, s.c3),
-        c3: diagonal(s.c3, s.c2, s.c1, s.c0),
+    pub fn shift_rows(self) -> State
+        ensures { result ≡ shift_rows self }
+    {
+        let State { c0, c1, c2, c3 } = self;
+        State {
+            c0: diagonal(c0, c1, c2, c3),
+            c1: diagonal(c1, c2, c3, c0),
+            c2: diagonal(c2, c3, c0, c1),
+            c3: diagonal(c3, c0, c1, c2),
+        }
     }
-}
 
-pub fn inv_mix_columns(s: State) -> State
-    ensures { result ≡ inv_mix_columns s }
-{
-    State {
-        c0: words::inv_mix_column(s.c0),
-        c1: words::inv_mix_column(s.c1),
-        c2: words::inv_mix_column(s.c2),
-        c3: words::inv_mix_column(s.c3),
+    pub fn inv_shift_rows(self) -> State
+        ensures { result ≡ inv_shift_rows self }
+    {
+        let State { c0, c1, c2, c3 } = self;
+        State {
+            c0: diagonal(c0, c3, c2, c1),
+            c1: diagonal(c1, c0, c3, c2),
+            c2: diagonal(c2, c1, c0, c3),
+            c3: diagonal(c3, c2, c1, c0),
+        }
     }
-}
 
-pub fn store(l: &mut [u8], at: usize, s: State)
-    requires { at + 16 ≤ length l.old }
-    ensures { l.new ≡ put_at l.old at (state_bytes s) }
-{
-    words::store(l, at, s.c0);
-    words::store(l, at + 4, s.c1);
-    words::store(l, at + 8, s.c2);
-    words::store(l, at + 12, s.c3);
+    // The block at a position of a list of bytes, column after column.
+    pub fn load(bytes: &[u8], at: usize) -> State
+        requires { at + 16 ≤ length bytes.now }
+        ensures { result ≡ state_at bytes.now at }
+    {
+        State {
+            c0: Word::load(bytes, at),
+            c1: Word::load(bytes, at + 4),
+            c2: Word::load(bytes, at + 8),
+            c3: Word::load(bytes, at + 12),
+        }
+    }
+
+    #[tactic(auto, using(crate::proofs::PutAt::put_four))]
+    pub fn store(self, bytes: &mut [u8], at: usize)
+        requires { at + 16 ≤ length bytes.old }
+        ensures { bytes.new ≡ put_at bytes.old at (state_bytes self) }
+    {
+        self.c0.store(bytes, at);
+        self.c1.store(bytes, at + 4);
+        self.c2.store(bytes, at + 8);
+        self.c3.store(bytes, at + 12);
+    }
 }

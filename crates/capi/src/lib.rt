@@ -15,16 +15,14 @@ ghost use Rattle.ciphers.specs.Entries.{outcome, cts_encrypt, cts_decrypt, xts_e
 pub extern "C" fn bulwarkle_xts_encrypt(key: &[u8], block_number: u64, block: &mut [u8]) -> u8
     ensures { outcome (record { errno = result }) block.new ≡ xts_encrypt key.now block_number block.old }
 {
-    let status = ciphers::xts_encrypt(key, block_number, block);
-    status.errno
+    ciphers::xts_encrypt(key, block_number, block).errno
 }
 
 #[unsafe(no_mangle)]
 pub extern "C" fn bulwarkle_xts_decrypt(key: &[u8], block_number: u64, block: &mut [u8]) -> u8
     ensures { outcome (record { errno = result }) block.new ≡ xts_decrypt key.now block_number block.old }
 {
-    let status = ciphers::xts_decrypt(key, block_number, block);
-    status.errno
+    ciphers::xts_decrypt(key, block_number, block).errno
 }
 
 // CBC-CS3 of a text of 16 to 4,096 bytes under a key of 16 or 32, from an initialization vector of zeros, both ways.
@@ -32,16 +30,14 @@ pub extern "C" fn bulwarkle_xts_decrypt(key: &[u8], block_number: u64, block: &m
 pub extern "C" fn bulwarkle_cts_encrypt(key: &[u8], text: &mut [u8]) -> u8
     ensures { outcome (record { errno = result }) text.new ≡ cts_encrypt key.now text.old }
 {
-    let status = ciphers::cts_encrypt(key, text);
-    status.errno
+    ciphers::cts_encrypt(key, text).errno
 }
 
 #[unsafe(no_mangle)]
 pub extern "C" fn bulwarkle_cts_decrypt(key: &[u8], text: &mut [u8]) -> u8
     ensures { outcome (record { errno = result }) text.new ≡ cts_decrypt key.now text.old }
 {
-    let status = ciphers::cts_decrypt(key, text);
-    status.errno
+    ciphers::cts_decrypt(key, text).errno
 }
 
 // AES-128 of 1 to 4 whole blocks, each by itself, under a key of 16 bytes.
@@ -49,6 +45,5 @@ pub extern "C" fn bulwarkle_cts_decrypt(key: &[u8], text: &mut [u8]) -> u8
 pub extern "C" fn bulwarkle_ecb_encrypt(key: &[u8], text: &mut [u8]) -> u8
     ensures { outcome (record { errno = result }) text.new ≡ ecb_encrypt key.now text.old }
 {
-    let status = ciphers::ecb_encrypt(key, text);
-    status.errno
+    ciphers::ecb_encrypt(key, text).errno
 }

@@ -1,46 +1,39 @@
 // Add key, remove key.
+#![tactic(auto, using(crate::proofs::Lines::lines), unfolding(volume::specs::Checks::add_key_check, volume::specs::Checks::remove_key_check, volume::specs::Checks::is_bad_key_length))]
+
 ghost use Rattle.std.specs.Prelude.{◌≡◌};
 ghost use Rattle.volume.specs.Checks.{is_bad_key_length, add_key_check, remove_key_check};
 
-use errno::{Checked, Errno};
+use errno::Errno;
 use lookup::keyring;
-use volume::{KEY_SLOTS, Volume};
+use volume::Volume;
 
 fn is_bad_key_length(n: usize) -> bool
     ensures { result ≡ is_bad_key_length n }
 {
-    if n == 16 {
-        return false;
-    }
-    if n == 32 {
-        return false;
-    }
-    if n == 48 {
-        return false;
-    }
-    n != 64
+    !matches!(n, 16 | 32 | 48 | 64)
 }
 
-pub fn add_key_check(v: Volume, d: [u8; 8], n: usize) -> Checked
-    ensures { result ≡ add_key_check v d n }
+pub fn add_key_check(v: &Volume, d: [u8; 8], n: usize) -> Result<(), Errno>
+    ensures { result ≡ add_key_check v.now d n }
 {
     if is_bad_key_length(n) {
-        return Checked::Refused(Errno::EINVAL);
+        return Err(Errno::EINVAL);
     }
-    if keyring::key_slot(v, d) < KEY_SLOTS {
-        return Checked::Refused(Errno::EEXIST);
+    if keyring::key_slot(v, d).is_some() {
+        return Err(Errno::EEXIST);
     }
-    if KEY_SLOTS <= keyring::free_key(v) {
-        return Checked::Refused(Errno::ENOSPC);
+    if keyring::free_key(v).is_none() {
+        return Err(Errno::ENOSPC);
     }
-    Checked::Fine
+    Ok(())
 }
 
-pub fn remove_key_check(v: Volume, d: [u8; 8]) -> Checked
-    ensures { result ≡ remove_key_check v d }
+pub fn remove_key_check(v: &Volume, d: [u8; 8]) -> Result<(), Errno>
+    ensures { result ≡ remove_key_check v.now d }
 {
-    if KEY_SLOTS <= keyring::key_slot(v, d) {
-        return Checked::Refused(Errno::ENOKEY);
+    if keyring::key_slot(v, d).is_none() {
+        return Err(Errno::ENOKEY);
     }
-    Checked::Fine
+    Ok(())
 }

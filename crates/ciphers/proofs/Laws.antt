@@ -4,7 +4,7 @@
 use mathlib.Core.Path.{◌≡◌, refl, sym, ap, ◌∙◌}
 use mathlib.Core.Bool.{Bool, true, false}
 use mathlib.Core.List.{List}
-use Prim.Native.Nat.{ℕ, ◌/◌}
+use Prim.Native.Nat.{ℕ, ◌/◌, ◌≤◌}
 use lib.ListN.{length, take, drop}
 use Rattle.lists.specs.Bytes.{ByteList}
 use Rattle.aes.specs.KeyExpansion.{rounds_of, key_expansion}
@@ -21,7 +21,7 @@ use Rattle.modes.proofs.XtsRoundTrip.{xts_dec_enc, xts_enc_dec, length_xts_aes_e
 use Rattle.modes.proofs.CtsRoundTrip.{cts_dec_enc, cts_enc_dec, length_cbc_cs3_encrypt, length_cbc_cs3_decrypt, cbc_cs3_encrypt_bytes, cbc_cs3_decrypt_bytes}
 use Rattle.ciphers.specs.Entries.{Outcome, outcome, answer, cts_fits, cts_encrypt, cts_decrypt, xts_fits, tweak_of, xts_encrypt, xts_decrypt, ecb_fits, ecb_encrypt}
 use Rattle.ciphers.specs.declared.Status.{Status}
-use Rattle.ciphers.proofs.Fits.{cts_sizes, xts_sizes, ecb_sizes}
+use Rattle.ciphers.proofs.Fits.{cts_fits_lem, xts_fits_lem, ecb_fits_lem}
 
 -- ---- laws on `answer`
 
@@ -48,94 +48,85 @@ answer_back false new old fits back e h g = ap (λ (c : Bool). answer c (back ol
 -- ---- CBC-CS3: each of the two undoes the other, and answers as the other did
 
 module _ (key l : List ℕ) where
-  encrypt_length : cts_fits (length key) (length l) ≡ true → length (cbc_cs3_encrypt (key_expansion key) (rounds_of (length key / 4)) zero_block l) ≡ length l
-  encrypt_length h = length_cbc_cs3_encrypt (key_expansion key) (rounds_of (length key / 4)) zero_block l (cts_sizes (length key) (length l) h).1
+  long : cts_fits (length key) (length l) ≡ true → 16 ≤ length l
+  long h = ((cts_fits_lem (length key) (length l)).0 h).1
 
   pub cts_encrypt_length : length (cts_encrypt key l).buffer ≡ length l
   unfolding cts_encrypt
-  cts_encrypt_length = answer_length (cts_fits (length key) (length l)) (cbc_cs3_encrypt (key_expansion key) (rounds_of (length key / 4)) zero_block l) l encrypt_length
-
-  decrypt_length : cts_fits (length key) (length l) ≡ true → length (cbc_cs3_decrypt (key_expansion key) (rounds_of (length key / 4)) zero_block l) ≡ length l
-  decrypt_length h = length_cbc_cs3_decrypt (key_expansion key) (rounds_of (length key / 4)) zero_block l (cts_sizes (length key) (length l) h).1
+  cts_encrypt_length = answer_length _ _ l (λ h. length_cbc_cs3_encrypt _ _ _ l (long h))
 
   pub cts_decrypt_length : length (cts_decrypt key l).buffer ≡ length l
   unfolding cts_decrypt
-  cts_decrypt_length = answer_length (cts_fits (length key) (length l)) (cbc_cs3_decrypt (key_expansion key) (rounds_of (length key / 4)) zero_block l) l decrypt_length
+  cts_decrypt_length = answer_length _ _ l (λ h. length_cbc_cs3_decrypt _ _ _ l (long h))
 
   module _ (hk : ByteList key) (hl : ByteList l) where
+    schedule_bytes : ByteList (key_expansion key)
+    schedule_bytes = key_expansion_bytes key hk
+
     pub cts_decrypt_cts_encrypt : cts_decrypt key (cts_encrypt key l).buffer ≡ record { status = (cts_encrypt key l).status; buffer = l }
     unfolding cts_encrypt cts_decrypt
     cts_decrypt_cts_encrypt =
-        answer_back (cts_fits (length key) (length l)) (cbc_cs3_encrypt (key_expansion key) (rounds_of (length key / 4)) zero_block l) l (cts_fits (length key))
-        (cbc_cs3_decrypt (key_expansion key) (rounds_of (length key / 4)) zero_block) refl encrypt_length
-        (λ h. cts_dec_enc (key_expansion key) (key_expansion_bytes key hk) (rounds_of (length key / 4)) zero_block zero_block_bytes l hl (cts_sizes (length key) (length l) h).1)
+        answer_back _ _ l (cts_fits (length key)) (cbc_cs3_decrypt (key_expansion key) (rounds_of (length key / 4)) zero_block) refl
+        (λ h. length_cbc_cs3_encrypt _ _ _ l (long h)) (λ h. cts_dec_enc _ schedule_bytes _ zero_block zero_block_bytes l hl (long h))
 
     pub cts_encrypt_cts_decrypt : cts_encrypt key (cts_decrypt key l).buffer ≡ record { status = (cts_decrypt key l).status; buffer = l }
     unfolding cts_encrypt cts_decrypt
     cts_encrypt_cts_decrypt =
-        answer_back (cts_fits (length key) (length l)) (cbc_cs3_decrypt (key_expansion key) (rounds_of (length key / 4)) zero_block l) l (cts_fits (length key))
-        (cbc_cs3_encrypt (key_expansion key) (rounds_of (length key / 4)) zero_block) refl decrypt_length
-        (λ h. cts_enc_dec (key_expansion key) (key_expansion_bytes key hk) (rounds_of (length key / 4)) zero_block zero_block_bytes l hl (cts_sizes (length key) (length l) h).1)
+        answer_back _ _ l (cts_fits (length key)) (cbc_cs3_encrypt (key_expansion key) (rounds_of (length key / 4)) zero_block) refl
+        (λ h. length_cbc_cs3_decrypt _ _ _ l (long h)) (λ h. cts_enc_dec _ schedule_bytes _ zero_block zero_block_bytes l hl (long h))
 
     pub cts_encrypt_bytes : ByteList (cts_encrypt key l).buffer
     unfolding cts_encrypt
     cts_encrypt_bytes =
-        answer_bytes (cts_fits (length key) (length l)) (cbc_cs3_encrypt (key_expansion key) (rounds_of (length key / 4)) zero_block l) l
-        (λ h. cbc_cs3_encrypt_bytes (key_expansion key) (key_expansion_bytes key hk) (rounds_of (length key / 4)) zero_block zero_block_bytes l hl) hl
+        answer_bytes (cts_fits (length key) (length l)) _ l
+        (λ h. cbc_cs3_encrypt_bytes (key_expansion key) schedule_bytes (rounds_of (length key / 4)) zero_block zero_block_bytes l hl) hl
 
     pub cts_decrypt_bytes : ByteList (cts_decrypt key l).buffer
     unfolding cts_decrypt
     cts_decrypt_bytes =
-        answer_bytes (cts_fits (length key) (length l)) (cbc_cs3_decrypt (key_expansion key) (rounds_of (length key / 4)) zero_block l) l
-        (λ h. cbc_cs3_decrypt_bytes (key_expansion key) (key_expansion_bytes key hk) (rounds_of (length key / 4)) zero_block zero_block_bytes l hl) hl
+        answer_bytes (cts_fits (length key) (length l)) _ l
+        (λ h. cbc_cs3_decrypt_bytes (key_expansion key) schedule_bytes (rounds_of (length key / 4)) zero_block zero_block_bytes l hl) hl
 
 -- ---- XTS-AES-256: each of the two undoes the other
 
 tweak_of_bytes : (key : List ℕ) (n : ℕ) → ByteList key → ByteState (tweak_of key n)
 unfolding tweak_of
-tweak_of_bytes key n h = cipher_bytes (key_expansion (drop 32 key)) (key_expansion_bytes (drop 32 key) (drop_bytes 32 key h)) 14 (number_block n) (number_block_bytes n)
+tweak_of_bytes key n h = cipher_bytes _ (key_expansion_bytes (drop 32 key) (drop_bytes 32 key h)) 14 (number_block n) (number_block_bytes n)
 
 module _ (key : List ℕ) (n : ℕ) (l : List ℕ) where
-  enc_length : xts_fits (length key) (length l) ≡ true → length (xts_aes_enc (key_expansion (take 32 key)) 14 (tweak_of key n) 256 l) ≡ length l
-  enc_length h = length_xts_aes_enc (key_expansion (take 32 key)) 14 (tweak_of key n) 256 l ∙ sym (xts_sizes (length key) (length l) h).1
-
-  dec_length : xts_fits (length key) (length l) ≡ true → length (xts_aes_dec (key_expansion (take 32 key)) 14 (tweak_of key n) 256 l) ≡ length l
-  dec_length h = length_xts_aes_dec (key_expansion (take 32 key)) 14 (tweak_of key n) 256 l ∙ sym (xts_sizes (length key) (length l) h).1
+  whole : xts_fits (length key) (length l) ≡ true → length l ≡ 4096
+  whole h = ((xts_fits_lem (length key) (length l)).0 h).1
 
   pub xts_encrypt_length : length (xts_encrypt key n l).buffer ≡ length l
   unfolding xts_encrypt
-  xts_encrypt_length = answer_length (xts_fits (length key) (length l)) (xts_aes_enc (key_expansion (take 32 key)) 14 (tweak_of key n) 256 l) l enc_length
+  xts_encrypt_length = answer_length _ _ l (λ h. length_xts_aes_enc _ _ _ 256 l ∙ sym (whole h))
 
   pub xts_decrypt_length : length (xts_decrypt key n l).buffer ≡ length l
   unfolding xts_decrypt
-  xts_decrypt_length = answer_length (xts_fits (length key) (length l)) (xts_aes_dec (key_expansion (take 32 key)) 14 (tweak_of key n) 256 l) l dec_length
+  xts_decrypt_length = answer_length _ _ l (λ h. length_xts_aes_dec _ _ _ 256 l ∙ sym (whole h))
 
   module _ (hk : ByteList key) (hl : ByteList l) where
-    schedule_bytes : ByteList (key_expansion (take 32 key))
-    schedule_bytes = key_expansion_bytes (take 32 key) (take_bytes 32 key hk)
+    data_bytes : ByteList (key_expansion (take 32 key))
+    data_bytes = key_expansion_bytes (take 32 key) (take_bytes 32 key hk)
 
     pub xts_decrypt_xts_encrypt : xts_decrypt key n (xts_encrypt key n l).buffer ≡ record { status = (xts_encrypt key n l).status; buffer = l }
     unfolding xts_encrypt xts_decrypt
     xts_decrypt_xts_encrypt =
-        answer_back (xts_fits (length key) (length l)) (xts_aes_enc (key_expansion (take 32 key)) 14 (tweak_of key n) 256 l) l (xts_fits (length key))
-        (xts_aes_dec (key_expansion (take 32 key)) 14 (tweak_of key n) 256) refl enc_length
-        (λ h. xts_dec_enc (key_expansion (take 32 key)) schedule_bytes 14 (tweak_of key n) (tweak_of_bytes key n hk) 256 l hl (xts_sizes (length key) (length l) h).1)
+        answer_back _ _ l (xts_fits (length key)) (xts_aes_dec (key_expansion (take 32 key)) 14 (tweak_of key n) 256) refl
+        (λ h. length_xts_aes_enc _ _ _ 256 l ∙ sym (whole h)) (λ h. xts_dec_enc _ data_bytes 14 (tweak_of key n) (tweak_of_bytes key n hk) 256 l hl (whole h))
 
     pub xts_encrypt_xts_decrypt : xts_encrypt key n (xts_decrypt key n l).buffer ≡ record { status = (xts_decrypt key n l).status; buffer = l }
     unfolding xts_encrypt xts_decrypt
     xts_encrypt_xts_decrypt =
-        answer_back (xts_fits (length key) (length l)) (xts_aes_dec (key_expansion (take 32 key)) 14 (tweak_of key n) 256 l) l (xts_fits (length key))
-        (xts_aes_enc (key_expansion (take 32 key)) 14 (tweak_of key n) 256) refl dec_length
-        (λ h. xts_enc_dec (key_expansion (take 32 key)) schedule_bytes 14 (tweak_of key n) (tweak_of_bytes key n hk) 256 l hl (xts_sizes (length key) (length l) h).1)
+        answer_back _ _ l (xts_fits (length key)) (xts_aes_enc (key_expansion (take 32 key)) 14 (tweak_of key n) 256) refl
+        (λ h. length_xts_aes_dec _ _ _ 256 l ∙ sym (whole h)) (λ h. xts_enc_dec _ data_bytes 14 (tweak_of key n) (tweak_of_bytes key n hk) 256 l hl (whole h))
 
 -- ---- ECB
 
 module _ (key l : List ℕ) where
   pub ecb_encrypt_length : length (ecb_encrypt key l).buffer ≡ length l
   unfolding ecb_encrypt
-  ecb_encrypt_length =
-      answer_length (ecb_fits (length key) (length l)) (ecb_blocks (key_expansion key) 10 l (length l / 16)) l
-      (λ h. length_ecb_blocks (key_expansion key) 10 l (length l / 16) ∙ sym (ecb_sizes (length key) (length l) h).1)
+  ecb_encrypt_length = answer_length _ _ l (λ h. length_ecb_blocks _ _ l _ ∙ sym ((ecb_fits_lem (length key) (length l)).0 h).1)
 
   pub ecb_encrypt_bytes : ByteList key → ByteList l → ByteList (ecb_encrypt key l).buffer
   unfolding ecb_encrypt

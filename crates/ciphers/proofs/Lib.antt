@@ -3,4 +3,3 @@ pub mod Laws
 pub mod Published
 mod Fits
 mod Meant
-mod Schedules

@@ -2,21 +2,18 @@
 use mathlib.Core.Path.{◌≡◌, refl, sym, ap, ◌∙◌}
 use mathlib.Core.Logic.{◌↔◌}
 use mathlib.Core.Bool.{Bool, true, false, false≢true}
-use Prim.Native.Nat.{ℕ, ◌/◌, ◌^◌, ◌<◌}
+use Prim.Native.Nat.{ℕ, ◌^◌, ◌<◌}
 use native.Mathlib.Omega.{arith}
-use lib.ListN.{length, take, drop}
+use lib.ListN.{length, drop}
 use Rattle.lists.specs.Bytes.{Bytes, ByteList}
 use Rattle.lists.proofs.ByteStrings.{drop_bytes}
 use Rattle.aes.specs.Cipher.{inv_cipher}
-use Rattle.aes.specs.KeyExpansion.{rounds_of, key_expansion}
+use Rattle.aes.specs.KeyExpansion.{key_expansion}
 use Rattle.aes.proofs.Inverse.{inv_cipher_cipher}
 use Rattle.aes.proofs.ScheduleBytes.{key_expansion_bytes}
-use Rattle.modes.specs.Blocks.{zero_block, number_block}
-use Rattle.modes.specs.Xts.{xts_aes_enc, xts_aes_dec}
-use Rattle.modes.specs.Cts.{cbc_cs3_encrypt, cbc_cs3_decrypt}
-use Rattle.modes.specs.Ecb.{ecb_blocks}
+use Rattle.modes.specs.Blocks.{number_block}
 use Rattle.modes.proofs.Numbers.{number_block_bytes, number_own}
-use Rattle.ciphers.specs.Entries.{answer, cts_fits, cts_encrypt, cts_decrypt, xts_fits, tweak_of, xts_encrypt, xts_decrypt, ecb_fits, ecb_encrypt}
+use Rattle.ciphers.specs.Entries.{answer, cts_encrypt, cts_decrypt, tweak_of, xts_encrypt, xts_decrypt, ecb_encrypt}
 use Rattle.ciphers.specs.Meanings.{CtsLengths, XtsLengths, EcbLengths, Exactly}
 use Rattle.ciphers.proofs.Fits.{cts_fits_lem, xts_fits_lem, ecb_fits_lem}
 
@@ -35,28 +32,24 @@ exactly false new lent h = record {
 module _ (key text : Bytes) where
   pub cts_encrypt_lem : Exactly (CtsLengths key text) (cts_encrypt key text) text
   unfolding cts_encrypt
-  cts_encrypt_lem =
-      exactly (cts_fits (length key) (length text)) (cbc_cs3_encrypt (key_expansion key) (rounds_of (length key / 4)) zero_block text) text (cts_fits_lem (length key) (length text))
+  cts_encrypt_lem = exactly _ _ text (cts_fits_lem (length key) (length text))
 
   pub cts_decrypt_lem : Exactly (CtsLengths key text) (cts_decrypt key text) text
   unfolding cts_decrypt
-  cts_decrypt_lem =
-      exactly (cts_fits (length key) (length text)) (cbc_cs3_decrypt (key_expansion key) (rounds_of (length key / 4)) zero_block text) text (cts_fits_lem (length key) (length text))
+  cts_decrypt_lem = exactly _ _ text (cts_fits_lem (length key) (length text))
 
   pub ecb_encrypt_lem : Exactly (EcbLengths key text) (ecb_encrypt key text) text
   unfolding ecb_encrypt
-  ecb_encrypt_lem = exactly (ecb_fits (length key) (length text)) (ecb_blocks (key_expansion key) 10 text (length text / 16)) text (ecb_fits_lem (length key) (length text))
+  ecb_encrypt_lem = exactly _ _ text (ecb_fits_lem (length key) (length text))
 
 module _ (key : Bytes) (n : ℕ) (block : Bytes) where
   pub xts_encrypt_lem : Exactly (XtsLengths key block) (xts_encrypt key n block) block
   unfolding xts_encrypt
-  xts_encrypt_lem =
-      exactly (xts_fits (length key) (length block)) (xts_aes_enc (key_expansion (take 32 key)) 14 (tweak_of key n) 256 block) block (xts_fits_lem (length key) (length block))
+  xts_encrypt_lem = exactly _ _ block (xts_fits_lem (length key) (length block))
 
   pub xts_decrypt_lem : Exactly (XtsLengths key block) (xts_decrypt key n block) block
   unfolding xts_decrypt
-  xts_decrypt_lem =
-      exactly (xts_fits (length key) (length block)) (xts_aes_dec (key_expansion (take 32 key)) 14 (tweak_of key n) 256 block) block (xts_fits_lem (length key) (length block))
+  xts_decrypt_lem = exactly _ _ block (xts_fits_lem (length key) (length block))
 
 -- ---- tweaks
 

@@ -16,8 +16,8 @@ use Rattle.modes.specs.Walk.{carried, walked}
 use Rattle.modes.specs.Ecb.{ecb_blocks}
 use Rattle.modes.specs.Blocks.{low_word, number_block}
 use Rattle.modes.specs.Cbc.{cbc_step}
-use Rattle.modes.specs.Cts.{last_two, cs3_encrypt, cbc_cs3_encrypt}
-use Rattle.modes.specs.Xts.{shifted_word, times_alpha, block_enc, xts_aes_enc}
+use Rattle.modes.specs.Cts.{last_two, long, cs3}
+use Rattle.modes.specs.Xts.{shifted_word, times_alpha, tweaked, xts_aes}
 use Rattle.ciphers.specs.Entries.{outcome, cts_fits, cts_encrypt, xts_fits, tweak_of, xts_encrypt, ecb_fits, ecb_encrypt}
 use Rattle.ciphers.specs.declared.Status.{Status}
 
@@ -28,7 +28,7 @@ hex (suc k) n = n / 256 ^ k % 256 ∷ hex k n
 
 -- what the computations below unfold
 unfoldable definitions : Unit {0}
-unfolding hex zeros ecb_encrypt ecb_fits ecb_blocks cts_encrypt cts_fits cbc_cs3_encrypt cs3_encrypt last_two cbc_step xts_encrypt xts_fits tweak_of xts_aes_enc block_enc times_alpha shifted_word walked carried number_block low_word state_bytes cipher rounds round last_round round_key key_expansion expanded next_word temp rcon x_power state_at word_at sub_bytes shift_rows mix_columns add_round_key sub_word mix_column add_word rot_word dot s_box s_box_table ◌•◌ polynomial_product reduced ◌⊕◌ x_times
+unfolding hex zeros ecb_encrypt ecb_fits ecb_blocks cts_encrypt cts_fits cs3 long last_two cbc_step xts_encrypt xts_fits tweak_of xts_aes tweaked times_alpha shifted_word walked carried number_block low_word state_bytes cipher rounds round last_round round_key key_expansion expanded next_word temp rcon x_power state_at word_at sub_bytes shift_rows mix_columns add_round_key sub_word mix_column add_word rot_word dot s_box s_box_table ◌•◌ polynomial_product reduced ◌⊕◌ x_times
 definitions = tt
 
 pub data Example : Type 0 where

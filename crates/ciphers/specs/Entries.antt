@@ -1,7 +1,8 @@
 -- The public entries of ciphers: the outcome, which is the answer and what the lent buffer holds then, for every key and every buffer. Document 01: "a key other than
 -- 16 or 32 bytes (XTS: 64), a CTS text outside 16 to 4,096 bytes or an XTS block other than 4,096 is EINVAL, and the buffer stays". Assumes nothing.
-use Rattle.std.specs.Prelude.{Bool, true, false, ◌&&◌, ◌||◌, List, ℕ, ◌/◌, ◌%◌, eqb, leb, length, take, drop}
+use Rattle.std.specs.Prelude.{Bool, true, false, ◌&&◌, ◌||◌, List, ℕ, ◌/◌, ◌%◌, eqb, leb, length, take, drop, ⊤, Result, Ok, Err}
 use Rattle.errno.specs.Refusals.{number}
+use Rattle.errno.specs.declared.Errno.{Errno}
 use Rattle.errno.specs.declared.Errno.TheVariants.{EINVAL}
 use Rattle.aes.specs.KeyExpansion.{rounds_of, key_expansion}
 use Rattle.aes.specs.Cipher.{cipher}
@@ -20,10 +21,15 @@ pub record Outcome : Type 0 where
 abbrev pub outcome : Status → List ℕ → Outcome
 outcome s b = record { status = s; buffer = b }
 
+-- done, which is 0, or a refusal, which is Linux's number for it
+abbrev pub status_of : Result ⊤ Errno → Status
+status_of (Ok u) = record { errno = 0 }
+status_of (Err e) = record { errno = number e }
+
 -- where the lengths are taken: done, which is 0, and the buffer becomes new; else EINVAL, and the buffer keeps every byte
 abbrev pub answer : Bool → List ℕ → List ℕ → Outcome
-answer true new old = outcome (record { errno = 0 }) new
-answer false new old = outcome (record { errno = number EINVAL }) old
+answer true new old = outcome (status_of (Ok tt)) new
+answer false new old = outcome (status_of (Err EINVAL)) old
 
 -- ---- CBC-CS3 under a key of 16 or 32 bytes, from an initialization vector of zeros
 

@@ -5,66 +5,65 @@
 mod keys;
 
 ghost use Rattle.std.specs.Prelude.{◌≡◌};
-ghost use Rattle.ciphers.specs.Entries.{outcome, cts_encrypt, cts_decrypt, xts_encrypt, xts_decrypt, ecb_encrypt};
+ghost use Rattle.ciphers.specs.Entries.{outcome, status_of, cts_encrypt, cts_decrypt, xts_encrypt, xts_decrypt, ecb_encrypt};
 ghost use Rattle.ciphers.specs.Meanings.{Meanings};
 
-// An answer: 0 for done, or 22 for EINVAL.
-#[derive(Clone, Copy)]
+use aes::{Decipher, Encipher};
+use errno::Errno;
+
+// An answer: 0 for done, or 22 for EINVAL. A number, as C is given it (crates/capi).
+#[derive(Clone, Copy, Debug, PartialEq, Eq)]
 pub struct Status {
     pub errno: u8,
 }
 
-// CBC-CS3 of a text of 16 to 4,096 bytes, in place, under a key of 16 or 32 bytes, from an initialization vector of zeros.
+impl From<Result<(), Errno>> for Status {
+    ghost from_gives = { λ done status. status ≡ status_of done };
+
+    fn from(done: Result<(), Errno>) -> Status {
+        match done {
+            Ok(()) => Status { errno: 0 },
+            Err(e) => Status { errno: e.into() },
+        }
+    }
+}
+
+// CBC-CS3 of a text of 16 to 4,096 bytes, in place, under a key of 16 or 32 bytes, from an initialization vector of zeros. README and C name each of the five entries, so
+// they stay beside one another.
+#[tactic(auto, unfolding(crate::specs::Entries::cts_encrypt))]
 pub fn cts_encrypt(key: &[u8], text: &mut [u8]) -> Status
     ensures { outcome result text.new ≡ cts_encrypt key.now text.old }
 {
-    if keys::cts_fits(key.len(), text.len()) {
-        keys::cts_encrypt(key, text);
-        return Status { errno: 0 };
-    }
-    Status { errno: 22 }
+    keys::cts_crypt::<Encipher>(key, text).into()
 }
 
+#[tactic(auto, unfolding(crate::specs::Entries::cts_decrypt))]
 pub fn cts_decrypt(key: &[u8], text: &mut [u8]) -> Status
     ensures { outcome result text.new ≡ cts_decrypt key.now text.old }
 {
-    if keys::cts_fits(key.len(), text.len()) {
-        keys::cts_decrypt(key, text);
-        return Status { errno: 0 };
-    }
-    Status { errno: 22 }
+    keys::cts_crypt::<Decipher>(key, text).into()
 }
 
 // XTS-AES-256 of a block of 4,096 bytes, in place, under a key of 64 bytes; the block's number makes the tweak.
+#[tactic(auto, unfolding(crate::specs::Entries::xts_encrypt))]
 pub fn xts_encrypt(key: &[u8], block_number: u64, block: &mut [u8]) -> Status
     ensures { outcome result block.new ≡ xts_encrypt key.now block_number block.old }
 {
-    if keys::xts_fits(key.len(), block.len()) {
-        keys::xts_encrypt(key, block_number, block);
-        return Status { errno: 0 };
-    }
-    Status { errno: 22 }
+    keys::xts_crypt::<Encipher>(key, block_number, block).into()
 }
 
+#[tactic(auto, unfolding(crate::specs::Entries::xts_decrypt))]
 pub fn xts_decrypt(key: &[u8], block_number: u64, block: &mut [u8]) -> Status
     ensures { outcome result block.new ≡ xts_decrypt key.now block_number block.old }
 {
-    if keys::xts_fits(key.len(), block.len()) {
-        keys::xts_decrypt(key, block_number, block);
-        return Status { errno: 0 };
-    }
-    Status { errno: 22 }
+    keys::xts_crypt::<Decipher>(key, block_number, block).into()
 }
 
 // AES-128 of 1 to 4 whole blocks, each by itself, in place, under a key of 16 bytes.
 pub fn ecb_encrypt(key: &[u8], text: &mut [u8]) -> Status
     ensures { outcome result text.new ≡ ecb_encrypt key.now text.old }
 {
-    if keys::ecb_fits(key.len(), text.len()) {
-        keys::ecb_encrypt(key, text);
-        return Status { errno: 0 };
-    }
-    Status { errno: 22 }
+    keys::ecb_encrypt(key, text).into()
 }
 
 // Which lengths each entry takes, that no two blocks of a key share a tweak, and what a tweak's start, multiplication by α and ciphertext stealing are in plain terms.

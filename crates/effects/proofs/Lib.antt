@@ -1,3 +1,3 @@
 -- The laws of effects.
-mod Acting
+pub mod Acting
 mod Showing

@@ -4,59 +4,57 @@ ghost use Rattle.lists.specs.Bytes.{laid_over};
 ghost use Rattle.fscrypt.specs.Cipher.{fscrypt};
 ghost use Rattle.fscrypt.specs.Names.{name_bytes};
 ghost use Rattle.volume.specs.Volume.{inode_slots, entry_slots, entry_slot};
-ghost use Rattle.volume.specs.Request.{outcome, replied, create_answered, entry_answered, form_answered, show_answered, create, link, rename, exchange, remove, find, show};
+ghost use Rattle.volume.specs.Request.{outcome, replied, create_answered, entry_answered, form_answered, show_answered, at, create, link, rename, exchange, remove, find, show};
 ghost use Rattle.volume.specs.Lookup.{inode_at, lacks_key, free_inode, free_entry};
 ghost use Rattle.volume.specs.DirectoryNames.{stored, form_in};
-ghost use Rattle.volume.specs.Step.{with_inodes, with_inode, child_of, without_unheld, effect};
+ghost use Rattle.volume.specs.Step.{with_inodes, child_of, without_unheld, effect};
 
 use crate::tables;
 use fscrypt::Name;
 use ids::{EntryNumber, InodeNumber};
 use lookup::{entries, inodes, keyring};
-use volume::{
-    Changed, CreateAnswer, CreateOutcome, Entry, EntryAnswer, Form, Inode, LinkOutcome, Reply,
-    ShowAnswer, ShownEntry, Volume,
-};
+use std::mem;
+use volume::{Changed, Created, ENTRY_SLOTS, Entry, Form, Inode, ShownEntry, Volume};
 
 // A child of this directory: it inherits the policy, unless it is special.
-fn new_inode(dir: Inode, kind: u64, x: [u8; 16]) -> Inode
+fn new_inode(dir: &Inode, kind: u64, x: [u8; 16]) -> Inode
     requires { kind ≤ 4 }
-    ensures { result ≡ child_of dir kind x }
+    ensures { result ≡ child_of dir.now kind x }
 {
-    if !inodes::is_nonce_needed(dir, kind) {
-        let mut plain = inodes::no_inode();
-        plain.kind = kind as u8;
-        return plain;
+    if inodes::is_nonce_needed(dir, kind) {
+        inodes::encrypted_inode(kind as u8, dir.context.policy, x)
+    } else {
+        Inode {
+            kind: kind as u8,
+            ..Inode::default()
+        }
     }
-    let own = dir.context;
-    let p = own.policy;
-    inodes::encrypted_inode(kind as u8, p, x)
 }
 
-fn new_entry(p: InodeNumber, i: InodeNumber, n: Name) -> Entry
-    ensures { result ≡ record { len = n.len; parent = p; inode = i; name = n.bytes } }
+// An entry of this directory with this name, as the directory stores it. Here and below `key_held` stays a `requires`: it speaks of the very volume that comes in, so a
+// type with it for an invariant would hold that volume, which the effects change.
+fn stored_entry(v: &Volume, parent: InodeNumber, inode: InodeNumber, name: &[u8]) -> Entry
+    requires name_fits { length name.now ≤ 255 }
+    requires key_held { lacks_key v.now (inode_at v.now parent) ≡ false }
+    ensures { result ≡ entry_slot parent inode (stored fscrypt v.now (inode_at v.now parent) name.now) }
 {
-    let bytes = n.bytes;
+    let dir = inodes::inode_at(v, parent);
+    let Name { len, bytes } = names::stored_name(v, &dir, name);
     Entry {
-        len: n.len,
-        parent: p,
-        inode: i,
+        len,
+        parent,
+        inode,
         name: bytes,
     }
 }
 
-// An entry of this directory with this name, as the directory stores it.
-fn stored_entry(v: Volume, p: InodeNumber, i: InodeNumber, name: &[u8]) -> Entry
-    requires name_fits { length name.now ≤ 255 }
-    requires key_held { lacks_key v (inode_at v p) ≡ false }
-    ensures { result ≡ entry_slot p i (stored fscrypt v (inode_at v p) name.now) }
-{
-    let dir = inodes::inode_at(v, p);
-    let s = names::stored_name(v, dir, name);
-    new_entry(p, i, s)
-}
-
-pub fn create(v: Volume, p: InodeNumber, kind: u64, name: &[u8], x: [u8; 16]) -> CreateOutcome
+pub fn create(
+    mut v: Volume,
+    p: InodeNumber,
+    kind: u64,
+    name: &[u8],
+    x: [u8; 16],
+) -> Changed<Created>
     requires name_fits { length name.now ≤ 255 }
     requires key_held { lacks_key v (inode_at v p) ≡ false }
     requires kind_known { kind ≤ 4 }
@@ -64,120 +62,106 @@ pub fn create(v: Volume, p: InodeNumber, kind: u64, name: &[u8], x: [u8; 16]) ->
     requires entry_free { free_entry v < entry_slots }
     ensures { outcome (create_answered result.answer) [] result.volume ≡ effect fscrypt v (create p kind name.now x) }
 {
-    let i = inodes::free_inode(v);
-    let k = entries::free_entry(v);
-    let node = new_inode(inodes::inode_at(v, p), kind, x);
-    let e = stored_entry(v, p, i, name);
-    let half = tables::put_inode(v, i, node);
-    let next = tables::put_entry(half, k, e);
-    CreateOutcome {
-        answer: CreateAnswer::Created(i, k),
-        volume: next,
+    let inode = inodes::free_inode(&v).unwrap();
+    let entry = entries::free_entry(&v).unwrap();
+    let node = new_inode(&inodes::inode_at(&v, p), kind, x);
+    let e = stored_entry(&v, p, inode, name);
+    tables::put_inode(&mut v, inode, node);
+    tables::put_entry(&mut v, entry, e);
+    Changed {
+        answer: Ok(Created { inode, entry }),
+        volume: v,
     }
 }
 
-pub fn link(v: Volume, i: InodeNumber, p: InodeNumber, name: &[u8]) -> LinkOutcome
+pub fn link(mut v: Volume, i: InodeNumber, p: InodeNumber, name: &[u8]) -> Changed<EntryNumber>
     requires name_fits { length name.now ≤ 255 }
     requires key_held { lacks_key v (inode_at v p) ≡ false }
     requires entry_free { free_entry v < entry_slots }
     ensures { outcome (entry_answered result.answer) [] result.volume ≡ effect fscrypt v (link i p name.now) }
 {
-    let k = entries::free_entry(v);
-    let e = stored_entry(v, p, i, name);
-    let next = tables::put_entry(v, k, e);
-    LinkOutcome {
-        answer: EntryAnswer::At(k),
-        volume: next,
+    let entry = entries::free_entry(&v).unwrap();
+    let e = stored_entry(&v, p, i, name);
+    tables::put_entry(&mut v, entry, e);
+    Changed {
+        answer: Ok(entry),
+        volume: v,
     }
 }
 
-pub fn rename(v: Volume, n: EntryNumber, p: InodeNumber, name: &[u8]) -> Changed
+pub fn rename(mut v: Volume, n: EntryNumber, p: InodeNumber, name: &[u8]) -> Changed<()>
     requires name_fits { length name.now ≤ 255 }
     requires key_held { lacks_key v (inode_at v p) ≡ false }
     ensures { outcome (replied result.answer) [] result.volume ≡ effect fscrypt v (rename n p name.now) }
 {
-    let old = entries::entry_at(v, n);
-    let e = stored_entry(v, p, old.inode, name);
-    let next = tables::put_entry(v, n, e);
+    let old = entries::entry_at(&v, n);
+    let e = stored_entry(&v, p, old.inode, name);
+    tables::put_entry(&mut v, n, e);
     Changed {
-        answer: Reply::Done,
-        volume: next,
-    }
-}
-
-// The same entry, of another inode.
-fn with_inode(e: Entry, i: InodeNumber) -> Entry
-    ensures { result ≡ with_inode e i }
-{
-    let parent = e.parent;
-    let bytes = e.name;
-    Entry {
-        len: e.len,
-        parent: parent,
-        inode: i,
-        name: bytes,
+        answer: Ok(()),
+        volume: v,
     }
 }
 
 // The names stay; each entry gets the other's inode.
-pub fn exchange(v: Volume, a: EntryNumber, b: EntryNumber) -> Changed
+pub fn exchange(mut v: Volume, a: EntryNumber, b: EntryNumber) -> Changed<()>
     ensures { outcome (replied result.answer) [] result.volume ≡ effect fscrypt v (exchange a b) }
 {
-    let one = entries::entry_at(v, a);
-    let other = entries::entry_at(v, b);
-    let half = tables::put_entry(v, a, with_inode(one, other.inode));
-    let next = tables::put_entry(half, b, with_inode(other, one.inode));
+    let mut one = entries::entry_at(&v, a);
+    let mut other = entries::entry_at(&v, b);
+    mem::swap(&mut one.inode, &mut other.inode);
+    tables::put_entry(&mut v, a, one);
+    tables::put_entry(&mut v, b, other);
     Changed {
-        answer: Reply::Done,
-        volume: next,
+        answer: Ok(()),
+        volume: v,
     }
 }
 
 // The volume without an inode that no entry holds any more.
-fn without_unheld(v: Volume, i: InodeNumber) -> Volume
+fn without_unheld(mut v: Volume, i: InodeNumber) -> Volume
     ensures { result ≡ with_inodes v (without_unheld v.inodes v.entries i) }
 {
-    let es = v.entries;
-    if entries::is_held(es, i) {
-        return v;
+    if !entries::is_held(&v.entries, i) {
+        tables::put_inode(&mut v, i, Inode::default());
     }
-    tables::put_inode(v, i, inodes::no_inode())
+    v
 }
 
 // The freed records are all zeros.
-pub fn remove(v: Volume, n: EntryNumber) -> Changed
+pub fn remove(mut v: Volume, n: EntryNumber) -> Changed<()>
     ensures { outcome (replied result.answer) [] result.volume ≡ effect fscrypt v (remove n) }
 {
-    let e = entries::entry_at(v, n);
-    let none = entries::no_entry();
-    let cleared = tables::put_entry(v, n, none);
-    let next = without_unheld(cleared, e.inode);
+    let e = entries::entry_at(&v, n);
+    tables::put_entry(&mut v, n, Entry::default());
     Changed {
-        answer: Reply::Done,
-        volume: next,
+        answer: Ok(()),
+        volume: without_unheld(v, e.inode),
     }
 }
 
-pub fn find(v: Volume, p: InodeNumber, name: &[u8]) -> EntryAnswer
+// The entry of this name; where there is none, the number of slots, as `effect` says. The volume comes by value: behind a reference that its table has so many is not
+// known before it is read.
+#[tactic(auto, using(crate::proofs::Showing::found_or_slots), unfolding(volume::specs::Step::effect))]
+pub fn find(v: Volume, p: InodeNumber, name: &[u8]) -> EntryNumber
     requires name_fits { length name.now ≤ 255 }
     requires key_held { lacks_key v (inode_at v p) ≡ false }
-    ensures { outcome (entry_answered result) [] v ≡ effect fscrypt v (find p name.now) }
+    ensures { outcome (at result) [] v ≡ effect fscrypt v (find p name.now) }
 {
-    let n = names::entry_of(v, p, name);
-    EntryAnswer::At(n)
+    names::entry_of(&v, p, name).unwrap_or(EntryNumber(ENTRY_SLOTS as u64))
 }
 
 // How names of this directory are shown.
-fn form_in(v: Volume, dir: Inode) -> Form
-    ensures { form_answered result ≡ form_in v dir }
+fn form_in(v: &Volume, dir: &Inode) -> Form
+    ensures { form_answered result ≡ form_in v.now dir.now }
 {
     if !dir.encrypted {
-        return Form::Plain;
+        Form::Plain
+    } else if keyring::key_present(v, dir) {
+        Form::Decrypted
+    } else {
+        Form::Encoded
     }
-    if keyring::key_present(v, dir) {
-        return Form::Decrypted;
-    }
-    Form::Encoded
 }
 
 // Copies a name to the buffer's start.
@@ -185,30 +169,25 @@ fn copy_name(buf: &mut [u8], n: Name)
     requires { 255 ≤ length buf.old }
     ensures { buf.new ≡ laid_over buf.old (name_bytes n) }
 {
-    let len = n.len as usize;
-    let bytes = n.bytes;
-    lists::copy_to(buf, 0, &bytes[..len]);
+    let bytes = n.as_bytes();
+    buf[..bytes.len()].copy_from_slice(bytes);
 }
 
-// The answer, and the name at the buffer's start.
-pub fn show(v: Volume, n: EntryNumber, buf: &mut [u8]) -> ShowAnswer
+// What is shown of an entry, and the name at the buffer's start: no byte of one that cannot be read.
+#[tactic(auto, using(crate::proofs::Showing::name_shown, fscrypt::proofs::Padding::name_bytes_packed), unfolding(volume::specs::Step::effect))]
+pub fn show(v: &Volume, n: EntryNumber, buf: &mut [u8]) -> ShownEntry
     requires { 255 ≤ length buf.old }
-    ensures { outcome (show_answered result) buf.new v ≡ effect fscrypt v (show n buf.old) }
+    ensures { outcome (show_answered (Ok result)) buf.new v.now ≡ effect fscrypt v.now (show n buf.old) }
 {
     let e = entries::entry_at(v, n);
-    let parent = e.parent;
-    let number = e.inode;
-    let dir = inodes::inode_at(v, parent);
-    let read = names::shown_name(v, dir, n, e);
-    let name = read.name;
+    let dir = inodes::inode_at(v, e.parent);
+    let name = names::shown_name(v, &dir, n, &e).unwrap_or(Name::new(b""));
     copy_name(buf, name);
-    let inode = inodes::inode_at(v, number);
-    let form = form_in(v, dir);
-    ShowAnswer::Shown(ShownEntry {
-        parent: parent,
-        inode: number,
-        kind: inode.kind,
-        form: form,
+    ShownEntry {
+        parent: e.parent,
+        inode: e.inode,
+        kind: inodes::inode_at(v, e.inode).kind,
+        form: form_in(v, &dir),
         len: name.len,
-    })
+    }
 }

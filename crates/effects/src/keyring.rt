@@ -7,49 +7,45 @@ ghost use Rattle.volume.specs.Lookup.{free_key_slot, key_slot_of};
 ghost use Rattle.volume.specs.Step.{effect};
 
 use lookup::keyring;
-use volume::{Changed, Key, Reply, Volume};
+use volume::{Changed, Key, Volume};
 
-// A slot of the keyring with this key.
-fn new_key(d: [u8; 8], key: &[u8]) -> Key
+// A slot of the keyring with this key: two lines like those of `Name::new`, with another record around them.
+#[tactic(auto, using(lists::proofs::ByteStrings::drop_zeros))]
+fn new_key(descriptor: [u8; 8], key: &[u8]) -> Key
     requires { length key.now ≤ 64 }
-    ensures { result ≡ key_slot d key.now }
+    ensures { result ≡ key_slot descriptor key.now }
 {
-    let none = keyring::no_key();
-    let mut bytes = none.bytes;
-    lists::copy_to(&mut bytes, 0, key);
+    let mut bytes = lists::zeros();
+    bytes[..key.len()].copy_from_slice(key);
     Key {
         len: key.len() as u8,
-        descriptor: d,
-        bytes: bytes,
+        descriptor,
+        bytes,
     }
 }
 
-pub fn add_key(v: Volume, d: [u8; 8], key: &[u8]) -> Changed
+pub fn add_key(mut v: Volume, d: [u8; 8], key: &[u8]) -> Changed<()>
     requires key_fits { length key.now ≤ 64 }
     requires slot_free { free_key_slot v < key_slots }
     ensures { outcome (replied result.answer) key.now result.volume ≡ effect fscrypt v (add_key d key.now) }
 {
-    let i = keyring::free_key(v);
-    let k = new_key(d, key);
-    let mut next = v;
-    next.keys[i] = k;
+    let i = keyring::free_key(&v).unwrap();
+    v.keys[i] = new_key(d, key);
     Changed {
-        answer: Reply::Done,
-        volume: next,
+        answer: Ok(()),
+        volume: v,
     }
 }
 
 // The freed slot is all zeros.
-pub fn remove_key(v: Volume, d: [u8; 8]) -> Changed
+pub fn remove_key(mut v: Volume, d: [u8; 8]) -> Changed<()>
     requires { key_slot_of v d < key_slots }
     ensures { outcome (replied result.answer) [] result.volume ≡ effect fscrypt v (remove_key d) }
 {
-    let i = keyring::key_slot(v, d);
-    let k = keyring::no_key();
-    let mut next = v;
-    next.keys[i] = k;
+    let i = keyring::key_slot(&v, d).unwrap();
+    v.keys[i] = Key::default();
     Changed {
-        answer: Reply::Done,
-        volume: next,
+        answer: Ok(()),
+        volume: v,
     }
 }

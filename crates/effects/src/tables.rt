@@ -3,30 +3,25 @@ ghost use Rattle.std.specs.Prelude.{◌≡◌, set};
 ghost use Rattle.volume.specs.Step.{with_inodes, with_entries};
 
 use ids::{EntryNumber, InodeNumber};
-use volume::{ENTRY_SLOTS, Entry, INODE_SLOTS, Inode, Volume};
+use volume::{Entry, Inode, Volume};
 
-// The volume with an inode put at a number.
-pub fn put_inode(v: Volume, n: InodeNumber, node: Inode) -> Volume
-    ensures { result ≡ with_inodes v (set v.inodes n.0 node) }
+// Puts a record at a number. A function for each table stands over it: docs/CLAIMS.md has stores take the number's own type.
+fn put<T: Copy>(table: &mut [T], n: u64, x: T)
+    ensures { table.new ≡ set table.old n x }
 {
-    let mut next = v;
-    if n.0 < INODE_SLOTS as u64 {
-        let i = n.0 as usize;
-        next.inodes[i] = node;
-        return next;
+    if n < table.len() as u64 {
+        table[n as usize] = x;
     }
-    next
 }
 
-// The volume with an entry put at a number.
-pub fn put_entry(v: Volume, n: EntryNumber, e: Entry) -> Volume
-    ensures { result ≡ with_entries v (set v.entries n.0 e) }
+pub fn put_inode(v: &mut Volume, n: InodeNumber, node: Inode)
+    ensures { v.new ≡ with_inodes v.old (set v.old.inodes n.0 node) }
 {
-    let mut next = v;
-    if n.0 < ENTRY_SLOTS as u64 {
-        let i = n.0 as usize;
-        next.entries[i] = e;
-        return next;
-    }
-    next
+    put(&mut v.inodes, n.0, node);
+}
+
+pub fn put_entry(v: &mut Volume, n: EntryNumber, e: Entry)
+    ensures { v.new ≡ with_entries v.old (set v.old.entries n.0 e) }
+{
+    put(&mut v.entries, n.0, e);
 }

@@ -4,12 +4,11 @@ use mathlib.Core.Path.{◌≡◌, refl, sym, ◌∙◌, ap}
 use mathlib.Core.Logic.{◌↔◌, ◌⊎◌, inl, inr}
 use mathlib.Core.Bool.{Bool, true, false, cond, true≢false, false≢true}
 use lib.Dec.{eqb}
-use Rattle.errno.specs.Refusals.{number, ◌⇒◌, ◌>>◌, is_fine}
+use Rattle.errno.specs.Refusals.{Checked, fine, refuse, number, ◌⇒◌, ◌>>◌, is_fine}
 use Rattle.errno.specs.Meanings.{TableMeanings}
 use Rattle.errno.specs.declared.Errno.{Errno}
 use Rattle.errno.specs.declared.Errno.TheVariants.{EPERM, ENOENT, EEXIST, EXDEV, ENOTDIR, EINVAL, ENOSPC, ERANGE, ENAMETOOLONG, ENOTEMPTY, ENODATA, ENOTUNIQ, EUCLEAN, ENOKEY}
-use Rattle.errno.specs.declared.Checked.{Checked}
-use Rattle.errno.specs.declared.Checked.TheVariants.{Fine, Refused}
+use Rattle.std.specs.declared.result.Result.TheVariants.{Ok, Err}
 
 -- ---- a refusal is read back from its number
 
@@ -43,40 +42,40 @@ number_means e e' = (λ h. sym (named_number e) ∙ ap named h ∙ named_number 
 
 -- ---- outcomes
 
-pub refused_not_fine : (e : Errno) → Refused e ≡ Fine → ⊥
+pub refused_not_fine : (e : Errno) → refuse e ≡ fine → ⊥
 refused_not_fine e h = false≢true (ap is_fine h)
 
-pub is_fine_means : (c : Checked) → (is_fine c ≡ true) ↔ (c ≡ Fine)
-is_fine_means Fine = (λ h. refl, λ h. refl)
-is_fine_means (Refused e) = (λ h. absurd (false≢true h), λ h. ap is_fine h)
+pub is_fine_means : (c : Checked) → (is_fine c ≡ true) ↔ (c ≡ fine)
+is_fine_means (Ok _) = (λ h. refl, λ h. refl)
+is_fine_means (Err e) = (λ h. absurd (false≢true h), λ h. ap is_fine h)
 
-pub line_refuses : (t : Bool) (e e' : Errno) → ((t ⇒ e) ≡ Refused e') ↔ ((t ≡ true) × (e ≡ e'))
+pub line_refuses : (t : Bool) (e e' : Errno) → ((t ⇒ e) ≡ refuse e') ↔ ((t ≡ true) × (e ≡ e'))
 unfolding ◌⇒◌
-line_refuses true e e' = (λ h. (refl, cc), λ h. ap Refused h.1)
+line_refuses true e e' = (λ h. (refl, cc), λ h. ap refuse h.1)
 line_refuses false e e' = (λ h. absurd (refused_not_fine e' (sym h)), λ h. absurd (false≢true h.0))
 
-pub line_passes : (t : Bool) (e : Errno) → ((t ⇒ e) ≡ Fine) ↔ (t ≡ false)
+pub line_passes : (t : Bool) (e : Errno) → ((t ⇒ e) ≡ fine) ↔ (t ≡ false)
 unfolding ◌⇒◌
 line_passes true e = (λ h. absurd (refused_not_fine e h), λ h. absurd (true≢false h))
 line_passes false e = (λ h. refl, λ h. refl)
 
-pub table_refuses : (a b : Checked) (e : Errno) → (◌>>◌ a b ≡ Refused e) ↔ ((a ≡ Refused e) ⊎ ((a ≡ Fine) × (b ≡ Refused e)))
+pub table_refuses : (a b : Checked) (e : Errno) → (◌>>◌ a b ≡ refuse e) ↔ ((a ≡ refuse e) ⊎ ((a ≡ fine) × (b ≡ refuse e)))
 unfolding ◌>>◌
-table_refuses (Refused d) b e = (λ h. inl h, go)
+table_refuses (Err d) b e = (λ h. inl h, go)
   where
-    go : (Refused d ≡ Refused e) ⊎ ((Refused d ≡ Fine) × (b ≡ Refused e)) → Refused d ≡ Refused e
+    go : (refuse d ≡ refuse e) ⊎ ((refuse d ≡ fine) × (b ≡ refuse e)) → refuse d ≡ refuse e
     go (inl h) = h
     go (inr h) = absurd (refused_not_fine d h.0)
-table_refuses Fine b e = (λ h. inr (refl, h), go)
+table_refuses (Ok _) b e = (λ h. inr (refl, h), go)
   where
-    go : (Fine ≡ Refused e) ⊎ ((Fine ≡ Fine) × (b ≡ Refused e)) → b ≡ Refused e
+    go : (fine ≡ refuse e) ⊎ ((fine ≡ fine) × (b ≡ refuse e)) → b ≡ refuse e
     go (inl h) = absurd (refused_not_fine e (sym h))
     go (inr h) = h.1
 
-pub table_passes : (a b : Checked) → (◌>>◌ a b ≡ Fine) ↔ ((a ≡ Fine) × (b ≡ Fine))
+pub table_passes : (a b : Checked) → (◌>>◌ a b ≡ fine) ↔ ((a ≡ fine) × (b ≡ fine))
 unfolding ◌>>◌
-table_passes (Refused e) b = (λ h. absurd (refused_not_fine e h), λ h. absurd (refused_not_fine e h.0))
-table_passes Fine b = (λ h. (refl, h), λ h. h.1)
+table_passes (Err e) b = (λ h. absurd (refused_not_fine e h), λ h. absurd (refused_not_fine e h.0))
+table_passes (Ok _) b = (λ h. (refl, h), λ h. h.1)
 
 pub tables_mean : TableMeanings
 tables_mean = record {

@@ -1,9 +1,7 @@
 -- The refusals of document 01's table, and tables of checks. Assumes nothing.
-use Rattle.std.specs.Prelude.{ℕ, Bool, true, false}
+use Rattle.std.specs.Prelude.{ℕ, Bool, true, false, ⊤, Result, Ok, Err}
 use Rattle.errno.specs.declared.Errno.{Errno}
 use Rattle.errno.specs.declared.Errno.TheVariants.{EPERM, ENOENT, EEXIST, EXDEV, ENOTDIR, EINVAL, ENOSPC, ERANGE, ENAMETOOLONG, ENOTEMPTY, ENODATA, ENOTUNIQ, EUCLEAN, ENOKEY}
-use Rattle.errno.specs.declared.Checked.{Checked}
-use Rattle.errno.specs.declared.Checked.TheVariants.{Fine, Refused}
 
 -- document 01: "Numbers are Linux's."; EXDEV is document 02's, Item 2
 abbrev pub number : Errno → ℕ
@@ -22,18 +20,33 @@ number ENOTUNIQ = 76
 number EUCLEAN = 117
 number ENOKEY = 126
 
+-- what a chain of checks comes to: it passes, or the first check that does not pass refuses
+abbrev pub Checked : Type 0
+Checked = Result ⊤ Errno
+
+abbrev pub fine : Checked
+fine = Ok tt
+
+abbrev pub refuse : Errno → Checked
+refuse e = Err e
+
 -- `test ⇒ ENOENT`: the refusal where the test holds
 infix 10 ◌⇒◌
 unfoldable pub ◌⇒◌ : Bool → Errno → Checked
-true ⇒ e = Refused e
-false ⇒ e = Fine
+true ⇒ e = refuse e
+false ⇒ e = fine
 
 -- a line of a table and the lines below it: the first refusal counts (document 01: "earlier checks having passed")
 unfoldable pub ◌>>◌ : Checked → Checked → Checked
-◌>>◌ (Refused e) next = Refused e
-◌>>◌ Fine next = next
+◌>>◌ (Err e) next = refuse e
+◌>>◌ (Ok _) next = next
+
+-- the check in a result: what stands beside it is left out
+abbrev pub check_of : {A : Type 0} → Result A Errno → Checked
+check_of (Ok a) = fine
+check_of (Err e) = refuse e
 
 -- the checks passed
 abbrev pub is_fine : Checked → Bool
-is_fine Fine = true
-is_fine (Refused e) = false
+is_fine (Ok _) = true
+is_fine (Err e) = false

@@ -5,7 +5,8 @@ ghost use Rattle.std.specs.Prelude.{◌≡◌};
 ghost use Rattle.errno.specs.Refusals.{number};
 ghost use Rattle.errno.specs.Meanings.{TableMeanings};
 
-#[derive(Clone, Copy)]
+// A refusal: the error of the `Result` that a check or a request answers.
+#[derive(Clone, Copy, Debug, PartialEq, Eq)]
 pub enum Errno {
     EPERM,
     ENOENT,
@@ -23,32 +24,27 @@ pub enum Errno {
     ENOKEY,
 }
 
-// What a chain of checks comes to.
-#[derive(Clone, Copy)]
-pub enum Checked {
-    Fine,
-    Refused(Errno),
-}
-
 // Linux's number for a refusal.
-pub fn number_of(e: Errno) -> u8
-    ensures { result ≡ number e }
-{
-    match e {
-        Errno::EPERM => 1,
-        Errno::ENOENT => 2,
-        Errno::EEXIST => 17,
-        Errno::EXDEV => 18,
-        Errno::ENOTDIR => 20,
-        Errno::EINVAL => 22,
-        Errno::ENOSPC => 28,
-        Errno::ERANGE => 34,
-        Errno::ENAMETOOLONG => 36,
-        Errno::ENOTEMPTY => 39,
-        Errno::ENODATA => 61,
-        Errno::ENOTUNIQ => 76,
-        Errno::EUCLEAN => 117,
-        Errno::ENOKEY => 126,
+impl From<Errno> for u8 {
+    ghost from_gives = { λ e n. n ≡ number e };
+
+    fn from(e: Errno) -> u8 {
+        match e {
+            Errno::EPERM => 1,
+            Errno::ENOENT => 2,
+            Errno::EEXIST => 17,
+            Errno::EXDEV => 18,
+            Errno::ENOTDIR => 20,
+            Errno::EINVAL => 22,
+            Errno::ENOSPC => 28,
+            Errno::ERANGE => 34,
+            Errno::ENAMETOOLONG => 36,
+            Errno::ENOTEMPTY => 39,
+            Errno::ENODATA => 61,
+            Errno::ENOTUNIQ => 76,
+            Errno::EUCLEAN => 117,
+            Errno::ENOKEY => 126,
+        }
     }
 }
 

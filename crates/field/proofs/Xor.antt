@@ -1,8 +1,8 @@
 -- The laws of the sum and of doubling: the sum is a commutative group in which each element is its own inverse, and doubling is additive. They hold of all
 -- numbers. Assumes nothing.
 use mathlib.Core.Path.{◌≡◌, refl, sym, ap, ap₂, ◌∙◌}
-use Prim.Native.Nat.{ℕ, zero, suc, ◌+◌, ◌*◌, ◌/◌, ◌%◌, ◌<◌}
-use native.Mathlib.Nat.{mod-lt, add-zero, zero-lt-suc, le_refl}
+use Prim.Native.Nat.{ℕ, zero, suc, ◌+◌, ◌*◌, ◌/◌, ◌%◌, ◌^◌, ◌<◌}
+use native.Mathlib.Nat.{mod-lt, zero-mul, add-zero, zero-lt-suc, le_refl}
 use native.Mathlib.Omega.{arith}
 use lib.Dec.{lit<}
 use lib.Arith.{bin_ind, digits_mod}
@@ -42,6 +42,11 @@ xor_assoc a =
     ∙ sym (ap₂ (λ (x y : ℕ). bit_xor (n / 2) x * 2 + differ (n % 2) y) (half b c) (odd b c))
     ∙ sym (xor_step n (bit_xor b c))) a
 
+-- the program's ^
+pub xor_is_sum : (a b : ℕ) → bit_xor a b ≡ a ⊕ b
+unfolding ◌⊕◌
+xor_is_sum a b = refl
+
 pub ⊕-assoc : (a b c : ℕ) → (a ⊕ b) ⊕ c ≡ a ⊕ (b ⊕ c)
 unfolding ◌⊕◌
 ⊕-assoc = xor_assoc
@@ -75,29 +80,32 @@ pub ⊕-cancel : (a b : ℕ) → a ⊕ (a ⊕ b) ≡ b
 pub ⊕-swap : (a b c d : ℕ) → (a ⊕ b) ⊕ (c ⊕ d) ≡ (a ⊕ c) ⊕ (b ⊕ d)
 ⊕-swap a b c d = simp (⊕-assoc, ⊕-left-comm)
 
+-- ---- a binary digit, times a number, is additive
+
+digit_times : (a b m : ℕ) → a < 2 → b < 2 → bit_xor a b * m ≡ bit_xor (a * m) (b * m)
+digit_times zero b m ha hb = simp (zero-mul, xor_zero_l)
+digit_times (suc zero) zero m ha hb = simp (zero-mul, xor_zero_r)
+digit_times (suc zero) (suc zero) m ha hb = zero-mul m ∙ sym (xor_self (1 * m))
+digit_times (suc zero) (suc (suc b)) m ha hb = absurd (omega arith)
+digit_times (suc (suc a)) b m ha hb = absurd (omega arith)
+
+pub digit_⊕ : (n m p q : ℕ) → (p ⊕ q) / 2 ^ n % 2 * m ≡ (p / 2 ^ n % 2 * m) ⊕ (q / 2 ^ n % 2 * m)
+unfolding ◌⊕◌
+digit_⊕ n m p q =
+    ap (λ (x : ℕ). x % 2 * m) (xor_shr p q n) ∙ ap (λ (x : ℕ). x * m) (xor_mod (p / 2 ^ n) (q / 2 ^ n) 1)
+    ∙ digit_times (p / 2 ^ n % 2) (q / 2 ^ n % 2) m (mod-lt (p / 2 ^ n) (zero-lt-suc 1)) (mod-lt (q / 2 ^ n) (zero-lt-suc 1))
+
 -- ---- doubling is additive
 
 times_two : (a b : ℕ) → bit_xor a b * 2 ≡ bit_xor (a * 2) (b * 2)
 times_two a b = sym (simp add-zero at (xor_block 1 a b 0 0 (lit< tt) (lit< tt)))
 
-times_27 : (a b : ℕ) → a < 2 → b < 2 → bit_xor a b * 27 ≡ bit_xor (a * 27) (b * 27)
-times_27 zero b ha hb = refl
-times_27 (suc zero) zero ha hb = refl
-times_27 (suc zero) (suc zero) ha hb = refl
-times_27 (suc zero) (suc (suc b)) ha hb = absurd (omega arith)
-times_27 (suc (suc a)) b ha hb = absurd (omega arith)
-
 low : (a b : ℕ) → bit_xor a b % 128 * 2 ≡ bit_xor (a % 128 * 2) (b % 128 * 2)
 low a b = ap (λ (x : ℕ). x * 2) (xor_mod a b 7) ∙ times_two (a % 128) (b % 128)
 
-high : (a b : ℕ) → bit_xor a b / 128 % 2 * 27 ≡ bit_xor (a / 128 % 2 * 27) (b / 128 % 2 * 27)
-high a b =
-    ap (λ (x : ℕ). x % 2 * 27) (xor_shr a b 7) ∙ ap (λ (x : ℕ). x * 27) (xor_mod (a / 128) (b / 128) 1)
-    ∙ times_27 (a / 128 % 2) (b / 128 % 2) (mod-lt (a / 128) two_pos) (mod-lt (b / 128) two_pos)
-
 pub x_times_⊕ : (a b : ℕ) → x_times (a ⊕ b) ≡ x_times a ⊕ x_times b
 unfolding x_times ◌⊕◌
-x_times_⊕ a b = ap₂ bit_xor (low a b) (high a b) ∙ ⊕-swap (a % 128 * 2) (b % 128 * 2) (a / 128 % 2 * 27) (b / 128 % 2 * 27)
+x_times_⊕ a b = ap₂ bit_xor (low a b) (digit_⊕ 7 27 a b) ∙ ⊕-swap (a % 128 * 2) (b % 128 * 2) (a / 128 % 2 * 27) (b / 128 % 2 * 27)
 
 pub x_times_lt : (b : ℕ) → b < 256 → x_times b < 256
 unfolding x_times

@@ -1,18 +1,14 @@
 -- The letters of a string: how many they are, what each is, by recursion three bytes and four letters at a time; and the two forms of an encoded name, as they
--- lie in a buffer of zeros. Assumes nothing.
+-- lie in a buffer. Assumes nothing.
 use mathlib.Core.Path.{◌≡◌, refl, sym, ap, ap₂, ◌∙◌}
-use mathlib.Core.List.{[], ◌∷◌, ◌++◌, append_assoc}
-use Prim.Native.Nat.{ℕ, zero, suc, ◌+◌, ◌-◌, ◌*◌, ◌/◌, ◌%◌, ◌≤◌, ◌<◌}
-use native.Mathlib.Nat.{zero-add}
+use mathlib.Core.List.{[], ◌∷◌, ◌++◌, append_assoc, append-nil}
+use Prim.Native.Nat.{ℕ, zero, suc, ◌+◌, ◌*◌, ◌/◌, ◌%◌, ◌≤◌, ◌<◌}
 use native.Mathlib.Omega.{arith}
 use lib.ListN.{length, take, drop, get_or, set, length-append, length-drop}
 use lib.Seq.{get_or-drop, length-take-le, set_at, append_snoc}
-use borrow.Author.Tests.{lt-ltb, le-ltb, le-leb, lt-leb}
-use Rattle.lists.specs.Bytes.{Bytes, zeros, hex_digit}
-use Rattle.lists.proofs.ByteStrings.{zeros_more, drop_zeros}
+use borrow.Author.Tests.{le-leb, lt-leb}
+use Rattle.lists.specs.Bytes.{Bytes, hex_digit}
 use Rattle.fscrypt.specs.Encoded.{letter, letters, encoded}
-use Rattle.fscrypt.specs.Names.{packed}
-use Rattle.fscrypt.specs.declared.Name.{Name}
 
 pub length_letters : (s : Bytes) → length (letters s) ≡ (4 * length s + 2) / 3
 unfolding letters
@@ -113,27 +109,6 @@ module _ (s : Bytes) (j : ℕ) (h : j < length (letters s)) where
       let g : 3 < length (letters (drop (three (j / 4)) s)) = omega (arith, in_rest) in
       t ∙ ap (λ (x : ℕ). letter (x % 64)) (p ∙ sym (byte_of_rest 2 (j / 4 * 3 + 2) refl)) ∙ sym (first_3 _ g) ∙ sym (letter_of_rest 3 e)
 
--- ---- letters and hex digits by their ranges
-
-pub letter_upper : (n : ℕ) → n < 26 → n + 65 ≡ letter n
-unfolding letter
-letter_upper n h = rw (lt-ltb n 26 h)
-
-pub letter_lower : (n : ℕ) → 26 ≤ n → n < 52 → n + 71 ≡ letter n
-unfolding letter
-letter_lower n g h = rw (le-ltb n 26 g, lt-ltb n 52 h)
-
-pub letter_digit : (n : ℕ) → 52 ≤ n → n < 62 → n - 4 ≡ letter n
-unfolding letter
-letter_digit n g h = let f : 26 ≤ n = omega arith in rw (le-ltb n 26 f, le-ltb n 52 g, lt-ltb n 62 h)
-
-pub letter_sign : (n : ℕ) → 62 ≤ n → n - 19 ≡ letter n
-unfolding letter
-letter_sign n h =
-    let f : 26 ≤ n = omega arith in
-    let g : 52 ≤ n = omega arith in
-    rw (le-ltb n 26 f, le-ltb n 52 g, le-ltb n 62 h)
-
 -- ---- the two forms of an encoded name
 
 pub encoded_short : (s : Bytes) (e : ℕ) → length s ≤ 160 → encoded s e ≡ letters s
@@ -151,19 +126,6 @@ encoded_long s e h = rw (lt-leb (length s) 160 h)
 pub length_front : (s : Bytes) → 160 < length s → length (letters (take 160 s)) ≡ 214
 length_front s h = omega (arith, length_letters (take 160 s), length-take-le 160 s (omega arith))
 
--- ---- in a buffer of zeros
-
-name_eq : {m n : ℕ} {a b : Bytes} → m ≡ n → a ≡ b → ◌≡◌ {A = Name} (record { len = m; bytes = a }) (record { len = n; bytes = b })
-name_eq p q = cc
-
--- letters put over zeros are a short name by value
-pub packed_short : (s z b : Bytes) (e : ℕ) → length s ≤ 160 → z ≡ zeros 255 → b ≡ take 0 z ++ letters s ++ drop (0 + length (letters s)) z
-    → ◌≡◌ {A = Name} (record { len = (4 * length s + 2) / 3; bytes = b }) (packed (encoded s e))
-packed_short s z b e h hz hb =
-    let n : ℕ = length (letters s) in
-    let f : drop (0 + n) z ≡ zeros (255 - n) = ap₂ (λ (k : ℕ) (x : Bytes). drop k x) (zero-add n) hz ∙ drop_zeros n 255 in
-    name_eq (sym (length_letters s)) (hb ∙ ap (λ (x : Bytes). letters s ++ x) f) ∙ ap packed (sym (encoded_short s e h))
-
 -- two stores after a front
 two_stores : (p zs : Bytes) (u v x y m n : ℕ) → length p ≡ m → m + 1 ≡ n → set (set (p ++ (u ∷ v ∷ zs)) m x) n y ≡ (p ++ (x ∷ y ∷ [])) ++ zs
 two_stores p zs u v x y m n e f =
@@ -171,20 +133,13 @@ two_stores p zs u v x y m n e f =
     ap (λ (l : Bytes). set l n y) (set_at p u (v ∷ zs) x m e ∙ sym (append_snoc p x (v ∷ zs))) ∙ set_at (p ++ (x ∷ [])) v zs y n q
     ∙ append_assoc p (x ∷ []) (y ∷ zs) ∙ sym (append_assoc p (x ∷ y ∷ []) zs)
 
--- and with the mark and the two digits a long one
-pub packed_long : (s z b : Bytes) (e x y : ℕ) → 160 < length s → z ≡ zeros 255
-    → b ≡ take 1 z ++ letters (take 160 s) ++ drop (1 + length (letters (take 160 s))) z → x ≡ hex_digit (e / 16 % 16) → y ≡ hex_digit (e % 16)
-    → ◌≡◌ {A = Name} (record { len = 217; bytes = set (set (set b 0 95) 215 x) 216 y }) (packed (encoded s e))
-packed_long s z b e x y h hz hb hx hy =
-    let L : Bytes = letters (take 160 s) in
-    let n : length L ≡ 214 = length_front s h in
-    let k : 1 + length L ≡ 215 = omega arith in
-    let front : take 1 z ≡ 0 ∷ [] = ap (take 1) (hz ∙ zeros_more 254) in
-    let whole : drop (1 + length L) z ≡ zeros 40 = ap₂ (λ (m : ℕ) (w : Bytes). drop m w) k hz ∙ drop_zeros 215 255 in
-    let back : drop (1 + length L) z ≡ 0 ∷ 0 ∷ zeros 38 = whole ∙ zeros_more 39 ∙ ap (0 ∷◌) (zeros_more 38) in
-    let l : length (95 ∷ (L ++ (x ∷ y ∷ []))) ≡ 217 = omega (arith, length-append L (x ∷ y ∷ [])) in
-    name_eq (sym l)
-    (ap (λ (w : Bytes). set (set (set w 0 95) 215 x) 216 y) (hb ∙ ap₂ (λ (u v : Bytes). u ++ L ++ v) front back)
-    ∙ two_stores (95 ∷ L) (zeros 38) 0 0 x y 215 216 (omega arith) (omega arith)
-    ∙ ap (λ (m : ℕ). (95 ∷ (L ++ (x ∷ y ∷ []))) ++ zeros (255 - m)) (sym l))
-    ∙ ap₂ (λ (u v : ℕ). packed (95 ∷ (L ++ (u ∷ v ∷ [])))) hx hy ∙ ap packed (sym (encoded_long s e h))
+-- letters between the mark and the two digits are a long name
+pub long_text : (s l : Bytes) (e x y : ℕ) → 160 < length s → l ≡ letters (take 160 s) → x ≡ hex_digit (e / 16 % 16) → y ≡ hex_digit (e % 16)
+    → set (set (95 ∷ (l ++ (0 ∷ 0 ∷ []))) 215 x) 216 y ≡ encoded s e
+long_text s l e x y h hl hx hy =
+    let n : length l ≡ 214 = ap length hl ∙ length_front s h in
+    two_stores (95 ∷ l) [] 0 0 x y 215 216 (omega arith) (omega arith)
+    ∙ append-nil (95 ∷ (l ++ (x ∷ y ∷ [])))
+    ∙ ap (λ (k : Bytes). 95 ∷ (k ++ (x ∷ y ∷ []))) hl
+    ∙ ap₂ (λ (u v : ℕ). 95 ∷ (letters (take 160 s) ++ (u ∷ v ∷ []))) hx hy
+    ∙ sym (encoded_long s e h)

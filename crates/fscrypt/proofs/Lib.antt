@@ -1,7 +1,6 @@
 -- The laws of fscrypt. Public are those that a crate above cites.
 pub mod Lawfulness
 pub mod Padding
-pub mod Shape
 pub mod Shown
 pub mod Distinct
 pub mod Lettering
@@ -10,4 +9,5 @@ pub mod PaddingMeanings
 pub mod LetterMeanings
 pub mod Meanings
 mod Packing
+mod Searching
 mod Published

@@ -1,23 +1,24 @@
 -- specs/Meanings.antt of names: a name is empty, too long, bad or plain, and each has its own outcome of the check. Assumes nothing.
 use Prim.Native.Nat.{ℕ, ◌≤◌, ◌<◌}
 use native.Mathlib.Omega.{arith}
-use native.Mathlib.Decide.{dec_lt}
-use mathlib.Core.Path.{◌≡◌, refl, sym, ◌∙◌, ap}
+use mathlib.Core.Path.{◌≡◌, refl, sym, ◌∙◌}
 use mathlib.Core.Logic.{◌↔◌, ◌⊎◌, inl, inr}
 use mathlib.Core.Bool.{Bool, true, false, ◌||◌, false≢true}
 use mathlib.Core.List.{[], ◌∷◌}
 use lib.ListN.{length, get_or}
 use lib.Dec.{eqb, ltb}
-use borrow.Author.Tests.{lt-ltb, le-ltb, ltb-true, ltb-false, eq-eqb}
+use borrow.Author.Tests.{ltb-true, ltb-false, eq-eqb}
+use Rattle.std.proofs.lemmas.Grind.{common_steps}
+use Rattle.std.proofs.lemmas.Bool.Decides.{nat_tests}
+use Rattle.errno.proofs.Chains.{line_case}
 use Rattle.lists.specs.Bytes.{Bytes, same, first_at}
-use Rattle.lists.proofs.Tests.{eqb-true, eqb_other, same_eq, same_of_eq}
+use Rattle.lists.proofs.Tests.{eqb-true, same_eq, same_of_eq}
 use Rattle.lists.proofs.Slots.{by_test}
 use Rattle.lists.proofs.ByteMeanings.{first_at_least}
-use Rattle.errno.specs.Refusals.{◌⇒◌, ◌>>◌, number}
+use Rattle.errno.specs.Refusals.{fine, refuse}
 use Rattle.errno.specs.declared.Errno.TheVariants.{ENOENT, ENAMETOOLONG, EINVAL}
-use Rattle.errno.specs.declared.Checked.{Checked}
-use Rattle.errno.specs.declared.Checked.TheVariants.{Fine, Refused}
 use Rattle.fscrypt.specs.Names.{is_nul, is_nul_or_slash, is_dot_name, is_bad_name, name_check}
+use Rattle.fscrypt.proofs.Padding.{PassedName, plain_name}
 use Rattle.fscrypt.specs.Meanings.{PlainName, BadName, nul, slash, dot, dots}
 
 -- ---- a bad byte or a dot name
@@ -81,88 +82,38 @@ plain_not_bad n p (slash i l e) = p.no_slash i l e
 plain_not_bad n p (dot e) = p.not_dot e
 plain_not_bad n p (dots e) = p.not_dots e
 
-empty_refused : (n : Bytes) → length n ≡ 0 → name_check n ≡ Refused ENOENT
-unfolding name_check ◌>>◌ ◌⇒◌
-empty_refused n h = rw (eq-eqb (length n) 0 h)
-
-long_refused : (n : Bytes) → 255 < length n → name_check n ≡ Refused ENAMETOOLONG
-unfolding name_check ◌>>◌ ◌⇒◌
-long_refused n h = rw (eqb_other (length n) 0 (omega arith), lt-ltb 255 (length n) h)
-
-bad_refused : (n : Bytes) → 1 ≤ length n → length n ≤ 255 → BadName n → name_check n ≡ Refused EINVAL
-unfolding name_check ◌>>◌ ◌⇒◌
-bad_refused n l h b = rw (eqb_other (length n) 0 (omega arith), le-ltb 255 (length n) h, bad_of n b)
-
 good : (n : Bytes) → PlainName n → is_bad_name n ≡ false
 good n p = by_test (is_bad_name n) (λ t. absurd (plain_not_bad n p (of_bad n t))) (λ f. f)
 
-plain_passes : (n : Bytes) → PlainName n → name_check n ≡ Fine
-unfolding name_check ◌>>◌ ◌⇒◌
-plain_passes n p = rw (eqb_other (length n) 0 (omega (arith, p.low)), le-ltb 255 (length n) p.high, good n p)
+plain_of : (n : Bytes) → PassedName n → PlainName n
+plain_of n p = record {
+  low = grind (arith, nat_tests, p.some_bytes);
+  high = p.not_long;
+  no_nul = λ i l e. false≢true (sym p.good ∙ bad_of n (nul i l e));
+  no_slash = λ i l e. false≢true (sym p.good ∙ bad_of n (slash i l e));
+  not_dot = λ e. false≢true (sym p.good ∙ bad_of n (dot e));
+  not_dots = λ e. false≢true (sym p.good ∙ bad_of n (dots e));
+}
 
--- every name is of one of the four sorts
-data Sort (n : Bytes) : Type 0 where
-  empty : length n ≡ 0 → Sort n
-  long : 255 < length n → Sort n
-  bad : 1 ≤ length n → length n ≤ 255 → BadName n → Sort n
-  plain : PlainName n → Sort n
+passes : (n : Bytes) → 1 ≤ length n → length n ≤ 255 → is_bad_name n ≡ false → name_check n ≡ fine
+unfolding name_check
+passes n l h g = grind (arith, common_steps, line_case)
 
-sort : (n : Bytes) → Sort n
-sort n = elim (dec_lt 255 (length n)) [
-  | yes g ↦ long g
-  | no g ↦ elim (dec_lt 0 (length n)) [
-    | no k ↦ empty (omega (arith, k))
-    | yes k ↦ by_test (is_bad_name n) (λ t. bad k (omega (arith, g)) (of_bad n t)) (λ f. plain record {
-      low = k;
-      high = omega (arith, g);
-      no_nul = λ i l e. false≢true (sym f ∙ bad_of n (nul i l e));
-      no_slash = λ i l e. false≢true (sym f ∙ bad_of n (slash i l e));
-      not_dot = λ e. false≢true (sym f ∙ bad_of n (dot e));
-      not_dots = λ e. false≢true (sym f ∙ bad_of n (dots e));
-    })
-  ]
-]
+pub name_check_fine : (n : Bytes) → (name_check n ≡ fine) ↔ PlainName n
+name_check_fine n = (λ h. plain_of n (plain_name n h), λ p. passes n p.low p.high (good n p))
 
--- two outcomes are told apart by their numbers
-abbrev code : Checked → ℕ
-code Fine = 0
-code (Refused e) = number e
+pub name_check_empty : (n : Bytes) → (name_check n ≡ refuse ENOENT) ↔ (length n ≡ 0)
+unfolding name_check
+name_check_empty n = (λ h. grind (arith, common_steps, line_case), λ h. grind (arith, common_steps, line_case))
 
-differ : {P : Type 0} (n : Bytes) {a b : Checked} → name_check n ≡ a → name_check n ≡ b → (code a ≡ code b → ⊥) → P
-differ n p q d = absurd (d (ap code (sym p ∙ q)))
+pub name_check_long : (n : Bytes) → (name_check n ≡ refuse ENAMETOOLONG) ↔ (255 < length n)
+unfolding name_check
+name_check_long n = (λ h. grind (arith, common_steps, line_case), λ h. grind (arith, common_steps, line_case))
 
-pub name_check_fine : (n : Bytes) → (name_check n ≡ Fine) ↔ PlainName n
-name_check_fine n = (λ h. go h (sort n), plain_passes n)
-  where
-    go : name_check n ≡ Fine → Sort n → PlainName n
-    go h (empty e) = differ n h (empty_refused n e) (omega arith)
-    go h (long e) = differ n h (long_refused n e) (omega arith)
-    go h (bad k l b) = differ n h (bad_refused n k l b) (omega arith)
-    go h (plain p) = p
+bad_tests : (n : Bytes) → (name_check n ≡ refuse EINVAL) ↔ ((1 ≤ length n) × (length n ≤ 255) × (is_bad_name n ≡ true))
+unfolding name_check
+bad_tests n = (λ h. (grind (arith, common_steps, line_case), grind (arith, common_steps, line_case), grind (arith, common_steps, line_case)), λ h. grind (arith, common_steps, line_case))
 
-pub name_check_empty : (n : Bytes) → (name_check n ≡ Refused ENOENT) ↔ (length n ≡ 0)
-name_check_empty n = (λ h. go h (sort n), empty_refused n)
-  where
-    go : name_check n ≡ Refused ENOENT → Sort n → length n ≡ 0
-    go h (empty e) = e
-    go h (long e) = differ n h (long_refused n e) (omega arith)
-    go h (bad k l b) = differ n h (bad_refused n k l b) (omega arith)
-    go h (plain p) = differ n h (plain_passes n p) (omega arith)
-
-pub name_check_long : (n : Bytes) → (name_check n ≡ Refused ENAMETOOLONG) ↔ (255 < length n)
-name_check_long n = (λ h. go h (sort n), long_refused n)
-  where
-    go : name_check n ≡ Refused ENAMETOOLONG → Sort n → 255 < length n
-    go h (empty e) = differ n h (empty_refused n e) (omega arith)
-    go h (long e) = e
-    go h (bad k l b) = differ n h (bad_refused n k l b) (omega arith)
-    go h (plain p) = differ n h (plain_passes n p) (omega arith)
-
-pub name_check_bad : (n : Bytes) → (name_check n ≡ Refused EINVAL) ↔ ((1 ≤ length n) × (length n ≤ 255) × BadName n)
-name_check_bad n = (λ h. go h (sort n), λ h. bad_refused n h.0 h.1 h.2)
-  where
-    go : name_check n ≡ Refused EINVAL → Sort n → (1 ≤ length n) × (length n ≤ 255) × BadName n
-    go h (empty e) = differ n h (empty_refused n e) (omega arith)
-    go h (long e) = differ n h (long_refused n e) (omega arith)
-    go h (bad k l b) = (k, l, b)
-    go h (plain p) = differ n h (plain_passes n p) (omega arith)
+pub name_check_bad : (n : Bytes) → (name_check n ≡ refuse EINVAL) ↔ ((1 ≤ length n) × (length n ≤ 255) × BadName n)
+name_check_bad n =
+    (λ h. let t = (bad_tests n).0 h in (t.0, t.1, of_bad n t.2), λ h. (bad_tests n).1 (h.0, h.1, bad_of n h.2))

@@ -5,6 +5,7 @@ use native.Mathlib.Omega.{arith}
 use mathlib.Core.Path.{◌≡◌, refl, ◌∙◌, ap}
 use mathlib.Core.Bool.{Bool, true, false, cond, ◌||◌}
 use mathlib.Core.List.{[], ◌∷◌, ◌++◌}
+use Rattle.std.specs.Prelude.{Ok}
 use lib.ListN.{length, take, drop, length-append}
 use lib.Seq.{take-append_seam, drop-append_seam}
 use lib.Dec.{eqb, leb, ltb}
@@ -12,9 +13,8 @@ use borrow.Author.Tests.{leb-true, leb-false, ltb-false, le-leb}
 use Rattle.lists.specs.Bytes.{Bytes, ByteList, zeros, first_at, is_empty}
 use Rattle.lists.proofs.ByteStrings.{append_bytes, zeros_bytes, length_zeros}
 use Rattle.lists.proofs.Tests.{or_left, eqb_self}
-use Rattle.errno.specs.Refusals.{◌⇒◌, ◌>>◌}
+use Rattle.errno.specs.Refusals.{fine, ◌⇒◌, ◌>>◌}
 use Rattle.errno.specs.declared.Errno.TheVariants.{ENOENT, ENAMETOOLONG, EINVAL}
-use Rattle.errno.specs.declared.Checked.TheVariants.{Fine}
 use Rattle.errno.proofs.Chains.{passed_test}
 use Rattle.fscrypt.specs.Cipher.{Cipher, Lawful}
 use Rattle.fscrypt.specs.Names.{is_long, is_nul, is_nul_or_slash, is_not_nul, is_dot_name, is_bad_name, name_check, multiple, rounded, padded_length, padded, encrypted, before_nul, is_all_nul, padding_check, read_padded, name_bytes, packed}
@@ -75,7 +75,7 @@ pub record PassedName (n : Bytes) : Type 0 where
   pub not_long : length n ≤ 255
   pub good : is_bad_name n ≡ false
 
-pub plain_name : (n : Bytes) → name_check n ≡ Fine → PassedName n
+pub plain_name : (n : Bytes) → name_check n ≡ fine → PassedName n
 unfolding name_check
 plain_name n h =
     let a = passed_test (is_empty n) ENOENT _ h in
@@ -83,7 +83,7 @@ plain_name n h =
     let d = passed_test (is_bad_name n) EINVAL _ b.1 in
     record { some_bytes = a.0; not_long = ltb-false 255 (length n) b.0; good = d.0 }
 
-pub name_fits : (n : Bytes) → name_check n ≡ Fine → length n ≤ 255
+pub name_fits : (n : Bytes) → name_check n ≡ fine → length n ≤ 255
 name_fits n h = (plain_name n h).not_long
 
 -- ---- what was padded is read back
@@ -110,7 +110,7 @@ zeros_nul : (k : ℕ) → is_all_nul (zeros k) ≡ true
 unfolding is_all_nul
 zeros_nul k = le-leb (length (zeros k)) (first_at is_not_nul (zeros k)) (omega (arith, length_zeros k, first_byte k))
 
-module _ (flags : ℕ) (n : Bytes) (h : name_check n ≡ Fine) where
+module _ (flags : ℕ) (n : Bytes) (h : name_check n ≡ fine) where
   padding_at : first_at is_nul (padded flags n) ≡ length n
   unfolding padded is_bad_name
   padding_at =
@@ -129,17 +129,17 @@ module _ (flags : ℕ) (n : Bytes) (h : name_check n ≡ Fine) where
       let k = padded_length flags (length n) - length n in
       ap is_all_nul (ap (λ (i : ℕ). drop i (n ++ zeros k)) padding_at ∙ drop-append_seam n (zeros k)) ∙ zeros_nul k
 
-  pub padding_fine : padding_check flags (padded flags n) ≡ Fine
+  pub padding_fine : padding_check flags (padded flags n) ≡ fine
   unfolding padding_check ◌>>◌ ◌⇒◌
   padding_fine = rw (after_name, before_padding, h, length_padded flags n (name_fits n h), eqb_self)
 
-  pub read_padded_padded : read_padded flags (padded flags n) ≡ record { checked = Fine; name = packed n }
+  pub read_padded_padded : read_padded flags (padded flags n) ≡ Ok (packed n)
   unfolding read_padded
   read_padded_padded = rw (padding_fine, before_padding)
 
 -- a plain name stored and read back with the same key is that name
-pub read_stored : (C : Cipher) → Lawful C → (key : Bytes) (flags : ℕ) (n : Bytes) → ByteList key → ByteList n → name_check n ≡ Fine
-    → read_padded flags (C.decrypt_name key (encrypted C key flags n)) ≡ record { checked = Fine; name = packed n }
+pub read_stored : (C : Cipher) → Lawful C → (key : Bytes) (flags : ℕ) (n : Bytes) → ByteList key → ByteList n → name_check n ≡ fine
+    → read_padded flags (C.decrypt_name key (encrypted C key flags n)) ≡ Ok (packed n)
 unfolding encrypted
 read_stored C L key flags n hk hn h = ap (read_padded flags) (L.decrypt_encrypt key (padded flags n) hk (padded_bytes flags n hn)) ∙ read_padded_padded flags n h
 

@@ -5,7 +5,8 @@ use native.Mathlib.Omega.{arith}
 use mathlib.Core.Path.{◌≡◌, refl, sym, ◌∙◌, ap, subst}
 use mathlib.Core.Logic.{◌↔◌, ◌⊎◌, inl, inr}
 use mathlib.Core.Bool.{Bool, true, false, not}
-use mathlib.Core.List.{[], ◌++◌}
+use mathlib.Core.List.{◌++◌}
+use Rattle.std.specs.Prelude.{Ok, Err}
 use lib.ListN.{length, take, drop, get_or, take-append-drop, length-drop, get_or-replicate}
 use lib.Seq.{ext_get_or, get_or-append-add, length-take-le, take-append_seam}
 use lib.Dec.{eqb, leb}
@@ -16,11 +17,9 @@ use Rattle.lists.proofs.Tables.{first_at_le}
 use Rattle.lists.proofs.ByteStrings.{length_zeros}
 use Rattle.lists.proofs.Slots.{all_same}
 use Rattle.lists.proofs.ByteMeanings.{first_at_least}
-use Rattle.errno.specs.Refusals.{◌⇒◌, ◌>>◌, is_fine}
+use Rattle.errno.specs.Refusals.{fine, refuse, is_fine}
 use Rattle.errno.specs.declared.Errno.TheVariants.{EUCLEAN}
-use Rattle.errno.specs.declared.Checked.{Checked}
-use Rattle.errno.specs.declared.Checked.TheVariants.{Fine, Refused}
-use Rattle.errno.proofs.Chains.{passed_test}
+use Rattle.errno.proofs.Chains.{passed_test, one_refusal}
 use Rattle.errno.proofs.ChainMeanings.{is_fine_means, refused_not_fine}
 use Rattle.fscrypt.specs.Names.{is_nul, is_nul_or_slash, is_not_nul, is_dot_name, is_bad_name, name_check, multiple, rounded, padded_length, padded, before_nul, is_all_nul, padding_check, read_padded, packed}
 use Rattle.fscrypt.specs.Meanings.{PlainName, Multiple, to_4, to_8, to_16, to_32, RoundedUp, PaddedTo, rounded_up, own_length, ReadAs}
@@ -112,8 +111,8 @@ module _ (flags q : ℕ) (b : Bytes) (M : Multiple flags q) where
   was_padded : (n : Bytes) → ReadAs q b n → padded flags n ≡ b
   was_padded n r = padded_means flags q n (length b) M r.stored ∙ sym r.padding
 
-  read_fine : (n : Bytes) → ReadAs q b n → padding_check flags b ≡ Fine
-  read_fine n r = subst (λ (x : Bytes). padding_check flags x ≡ Fine) (was_padded n r) (padding_fine flags n ((name_check_fine n).1 r.plain))
+  read_fine : (n : Bytes) → ReadAs q b n → padding_check flags b ≡ fine
+  read_fine n r = subst (λ (x : Bytes). padding_check flags x ≡ fine) (was_padded n r) (padding_fine flags n ((name_check_fine n).1 r.plain))
 
   name_and_nuls : is_all_nul (drop (first_at is_nul b) b) ≡ true → b ≡ before_nul b ++ zeros (length b - length (before_nul b))
   unfolding before_nul
@@ -122,7 +121,7 @@ module _ (flags q : ℕ) (b : Bytes) (M : Multiple flags q) where
       let k : length (drop at b) ≡ length b - length (take at b) = length-drop at b ∙ ap (λ (x : ℕ). length b - x) (sym (length-take-le at b (first_at_le is_nul b))) in
       sym (take-append-drop at b) ∙ ap (take at b ++◌) (all_nul (drop at b) h ∙ ap zeros k)
 
-  fine_read : padding_check flags b ≡ Fine → ReadAs q b (before_nul b)
+  fine_read : padding_check flags b ≡ fine → ReadAs q b (before_nul b)
   unfolding padding_check
   fine_read h =
       let x = passed_test (not (is_all_nul (drop (first_at is_nul b) b))) EUCLEAN _ h in
@@ -134,37 +133,24 @@ module _ (flags q : ℕ) (b : Bytes) (M : Multiple flags q) where
         stored = (padded_length_means flags q (length (before_nul b)) (length b) M).0 (eqb-true (not-false z.0));
       }
 
-  pub padding_check_fine : (padding_check flags b ≡ Fine) ↔ ((n : Bytes) × ReadAs q b n)
+  pub padding_check_fine : (padding_check flags b ≡ fine) ↔ ((n : Bytes) × ReadAs q b n)
   padding_check_fine = (λ h. (before_nul b, fine_read h), λ r. read_fine r.0 r.1)
 
-  fine_or_not : (padding_check flags b ≡ Fine) ⊎ (padding_check flags b ≡ Refused EUCLEAN)
-  unfolding padding_check ◌>>◌ ◌⇒◌
-  fine_or_not = go (not (is_all_nul (drop (first_at is_nul b) b))) (not (is_fine (name_check (before_nul b)))) (not (eqb (padded_length flags (length (before_nul b))) (length b)))
-    where
-      table : Bool → Bool → Bool → Checked
-      table x y z = do
-        x ⇒ EUCLEAN
-        y ⇒ EUCLEAN
-        z ⇒ EUCLEAN
-        Fine
+  fine_or_not : (padding_check flags b ≡ fine) ⊎ (padding_check flags b ≡ refuse EUCLEAN)
+  unfolding padding_check
+  fine_or_not = one_refusal _ _ _ (one_refusal _ _ _ (one_refusal _ _ _ (inl refl)))
 
-      go : (x y z : Bool) → (table x y z ≡ Fine) ⊎ (table x y z ≡ Refused EUCLEAN)
-      go true y z = inr refl
-      go false true z = inr refl
-      go false false true = inr refl
-      go false false false = inl refl
-
-  pub padding_check_refused : (padding_check flags b ≡ Refused EUCLEAN) ↔ ((n : Bytes) → ReadAs q b n → ⊥)
+  pub padding_check_refused : (padding_check flags b ≡ refuse EUCLEAN) ↔ ((n : Bytes) → ReadAs q b n → ⊥)
   padding_check_refused = (λ h n r. refused_not_fine EUCLEAN (sym h ∙ read_fine n r), λ f. go f fine_or_not)
     where
-      go : ((n : Bytes) → ReadAs q b n → ⊥) → (padding_check flags b ≡ Fine) ⊎ (padding_check flags b ≡ Refused EUCLEAN) → padding_check flags b ≡ Refused EUCLEAN
+      go : ((n : Bytes) → ReadAs q b n → ⊥) → (padding_check flags b ≡ fine) ⊎ (padding_check flags b ≡ refuse EUCLEAN) → padding_check flags b ≡ refuse EUCLEAN
       go f (inl h) = absurd (f (before_nul b) (fine_read h))
       go f (inr h) = h
 
-  pub read_padded_read : (n : Bytes) → ReadAs q b n → read_padded flags b ≡ record { checked = Fine; name = packed n }
+  pub read_padded_read : (n : Bytes) → ReadAs q b n → read_padded flags b ≡ Ok (packed n)
   read_padded_read n r = ap (read_padded flags) (sym (was_padded n r)) ∙ read_padded_padded flags n ((name_check_fine n).1 r.plain)
 
-  pub read_padded_unread : ((n : Bytes) → ReadAs q b n → ⊥) → read_padded flags b ≡ record { checked = Refused EUCLEAN; name = packed [] }
+  pub read_padded_unread : ((n : Bytes) → ReadAs q b n → ⊥) → read_padded flags b ≡ Err EUCLEAN
   unfolding read_padded
   read_padded_unread f = rw (padding_check_refused.1 f)
 

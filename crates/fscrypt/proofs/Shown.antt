@@ -1,7 +1,10 @@
 -- A stored name as it is shown without its key: its length, that its bytes are those of a plain name, and what of it does not depend on the stored bytes.
 -- Every letter and hex digit is a fair byte, and so is each byte of a list made of them. Assumes nothing.
-use Rattle.lists.proofs.Digits.{hex_low, hex_high}
-use mathlib.Core.Path.{◌≡◌, refl, ap, ap₂, ◌∙◌}
+use mathlib.Core.Path.{◌≡◌, refl, sym, ap, ap₂, ◌∙◌}
+use mathlib.Core.Bool.{true, not, true≢false}
+use lib.Dec.{eqb}
+use borrow.Author.Tests.{eq-eqb}
+use Rattle.lists.proofs.ByteMeanings.{all_below, at_each}
 use mathlib.Core.List.{[], ◌∷◌, ◌++◌}
 use Prim.Native.Nat.{ℕ, zero, suc, ◌+◌, ◌*◌, ◌/◌, ◌%◌, ◌≤◌, ◌<◌}
 use native.Mathlib.Decide.{dec_lt}
@@ -11,7 +14,7 @@ use lib.Seq.{get_or-append-add}
 use Rattle.lists.specs.Bytes.{Bytes, ByteList, hex_digit}
 use Rattle.lists.proofs.ByteStrings.{take_bytes}
 use Rattle.fscrypt.specs.Encoded.{letter, letters, encoded}
-use Rattle.fscrypt.proofs.Lettering.{length_letters, length_front, letter_upper, letter_lower, letter_digit, letter_sign, marks, encoded_short, encoded_long}
+use Rattle.fscrypt.proofs.Lettering.{length_letters, length_front, marks, encoded_short, encoded_long}
 
 -- ---- lengths
 
@@ -42,26 +45,20 @@ record Fair (x : ℕ) : Type 0 where
   pub nul : x ≡ 0 → ⊥
   pub slash : x ≡ 47 → ⊥
 
-fair_at : (x y : ℕ) → y ≡ x → 43 ≤ y → y < 123 → (y ≡ 47 → ⊥) → Fair x
-fair_at x y e g h n = record { nul = λ z. omega arith; slash = λ z. n (e ∙ z) }
+-- a byte that no letter is, and no hex digit, found by computing each
+pub letter_never : (b : ℕ) → all_below (λ i. not (eqb (letter i) b)) 64 ≡ true → (n : ℕ) → n < 64 → letter n ≡ b → ⊥
+letter_never b t n h e = true≢false (sym (at_each (λ i. not (eqb (letter i) b)) 64 t n h) ∙ ap not (eq-eqb (letter n) b e))
+
+hex_never : (b : ℕ) → all_below (λ i. not (eqb (hex_digit i) b)) 16 ≡ true → (n : ℕ) → n < 16 → hex_digit n ≡ b → ⊥
+hex_never b t n h e = true≢false (sym (at_each (λ i. not (eqb (hex_digit i) b)) 16 t n h) ∙ ap not (eq-eqb (hex_digit n) b e))
 
 letter_fair : (n : ℕ) → n < 64 → Fair (letter n)
-letter_fair n h = elim (dec_lt n 26) [
-  | yes g ↦ fair_at _ _ (letter_upper n g) (omega arith) (omega (arith, g)) (λ z. omega arith)
-  | no g ↦ elim (dec_lt n 52) [
-    | yes k ↦ fair_at _ _ (letter_lower n (omega (arith, g)) k) (omega arith) (omega (arith, k)) (λ z. omega arith)
-    | no k ↦ elim (dec_lt n 62) [
-      | yes m ↦ fair_at _ _ (letter_digit n (omega (arith, k)) m) (omega (arith, k)) (omega (arith, m)) (λ z. omega (arith, k))
-      | no m ↦ fair_at _ _ (letter_sign n (omega (arith, m))) (omega (arith, m)) (omega arith) (λ z. omega (arith, m))
-    ]
-  ]
-]
+unfolding letter
+letter_fair n h = record { nul = letter_never 0 refl n h; slash = letter_never 47 refl n h }
 
 hex_fair : (n : ℕ) → n < 16 → Fair (hex_digit n)
-hex_fair n h = elim (dec_lt n 10) [
-  | yes g ↦ fair_at _ _ (hex_low n g) (omega arith) (omega (arith, g)) (λ z. omega arith)
-  | no g ↦ fair_at _ _ (hex_high n (omega (arith, g))) (omega arith) (omega arith) (λ z. omega arith)
-]
+unfolding hex_digit
+hex_fair n h = record { nul = hex_never 0 refl n h; slash = hex_never 47 refl n h }
 
 AllFair : Bytes → Type 0
 AllFair l = (i : ℕ) → i < length l → Fair (get_or l i 0)
@@ -99,7 +96,7 @@ letters_fair (a ∷ b ∷ c ∷ rest) h =
 
 long_fair : (s : Bytes) (e : ℕ) → ByteList s → AllFair (95 ∷ (letters (take 160 s) ++ marks e))
 long_fair s e h =
-    fair_cons 95 _ (fair_at 95 95 refl (omega arith) (omega arith) (λ z. omega arith))
+    fair_cons 95 _ (record { nul = λ z. omega arith; slash = λ z. omega arith })
     (fair_append (letters (take 160 s)) (marks e) (letters_fair (take 160 s) (take_bytes 160 s h))
     (fair_cons _ _ (hex_fair (e / 16 % 16) (omega arith)) (fair_cons _ _ (hex_fair (e % 16) (omega arith)) fair_none)))
 

@@ -1,13 +1,13 @@
 -- What the tests of Names.antt and Encoded.antt mean, in words without a test: which names are plain and how the others are refused, how long a padded name
 -- is, what decrypted bytes are read as, and what is written in letters. Document 01, "Names and blocks", is quoted. The proofs are in proofs/NameMeanings.antt,
 -- PaddingMeanings.antt and LetterMeanings.antt. Assumes nothing.
-use Rattle.std.specs.Prelude.{ℕ, zero, suc, ◌+◌, ◌-◌, ◌*◌, ◌/◌, ◌%◌, ◌^◌, ◌≤◌, ◌<◌, ◌≡◌, ◌↔◌, ◌≢◌, [], ◌∷◌, ◌++◌, map, length, take, drop, get_or, eqb}
+use Rattle.std.specs.Prelude.{ℕ, zero, suc, ◌+◌, ◌-◌, ◌*◌, ◌/◌, ◌%◌, ◌^◌, ◌≤◌, ◌<◌, ◌≡◌, ◌↔◌, ◌≢◌, [], ◌∷◌, ◌++◌, map, length, take, drop, get_or, eqb, Ok, Err}
 use Rattle.lists.specs.Bytes.{Bytes, ByteList, zeros, first_at}
 use Rattle.lists.specs.Meanings.{hex_digits}
 use Rattle.errno.specs.declared.Errno.TheVariants.{ENOENT, ENAMETOOLONG, EINVAL, EUCLEAN}
-use Rattle.errno.specs.declared.Checked.TheVariants.{Fine, Refused}
 use Rattle.fscrypt.specs.Names.{name_check, padded_length, padded, padding_check, name_bytes, packed, read_padded}
 use Rattle.fscrypt.specs.Encoded.{letter, letters, encoded}
+use Rattle.errno.specs.Refusals.{fine, refuse}
 
 -- ---- plain names
 
@@ -94,21 +94,21 @@ decoded l = cut_anew 6 8 (3 * length l / 4) (map (position alphabet) l)
 
 pub record NameMeanings : Type 0 where
   -- "Order with names: empty, too long, bad byte or dot name": a name is refused so, or it is a plain one
-  pub plain : (n : Bytes) → (name_check n ≡ Fine) ↔ PlainName n
-  pub empty : (n : Bytes) → (name_check n ≡ Refused ENOENT) ↔ (length n ≡ 0)
-  pub long : (n : Bytes) → (name_check n ≡ Refused ENAMETOOLONG) ↔ (255 < length n)
-  pub bad : (n : Bytes) → (name_check n ≡ Refused EINVAL) ↔ ((1 ≤ length n) × (length n ≤ 255) × BadName n)
+  pub plain : (n : Bytes) → (name_check n ≡ fine) ↔ PlainName n
+  pub empty : (n : Bytes) → (name_check n ≡ refuse ENOENT) ↔ (length n ≡ 0)
+  pub long : (n : Bytes) → (name_check n ≡ refuse ENAMETOOLONG) ↔ (255 < length n)
+  pub bad : (n : Bytes) → (name_check n ≡ refuse EINVAL) ↔ ((1 ≤ length n) × (length n ≤ 255) × BadName n)
   -- "Padded length: .. Padding is NULs."
   pub length_padded : (flags q n m : ℕ) → Multiple flags q → (padded_length flags n ≡ m) ↔ PaddedTo q n m
   pub padding : (flags q : ℕ) (n : Bytes) (m : ℕ) → Multiple flags q → PaddedTo q (length n) m → padded flags n ≡ n ++ zeros (m - length n)
   pub stored_length : (flags : ℕ) (n : Bytes) → length n ≤ 255 → length (padded flags n) ≡ padded_length flags (length n)
   -- decrypted bytes are read as at most one name, and as that one; where they are read as none, it is EUCLEAN
-  pub read : (flags q : ℕ) (b : Bytes) → Multiple flags q → (padding_check flags b ≡ Fine) ↔ ((n : Bytes) × ReadAs q b n)
-  pub unread : (flags q : ℕ) (b : Bytes) → Multiple flags q → (padding_check flags b ≡ Refused EUCLEAN) ↔ ((n : Bytes) → ReadAs q b n → ⊥)
+  pub read : (flags q : ℕ) (b : Bytes) → Multiple flags q → (padding_check flags b ≡ fine) ↔ ((n : Bytes) × ReadAs q b n)
+  pub unread : (flags q : ℕ) (b : Bytes) → Multiple flags q → (padding_check flags b ≡ refuse EUCLEAN) ↔ ((n : Bytes) → ReadAs q b n → ⊥)
   pub one : (q : ℕ) (b n n' : Bytes) → ReadAs q b n → ReadAs q b n' → n ≡ n'
-  pub read_name : (flags q : ℕ) (b n : Bytes) → Multiple flags q → ReadAs q b n → read_padded flags b ≡ record { checked = Fine; name = packed n }
+  pub read_name : (flags q : ℕ) (b n : Bytes) → Multiple flags q → ReadAs q b n → read_padded flags b ≡ Ok (packed n)
   pub unread_name : (flags q : ℕ) (b : Bytes) → Multiple flags q → ((n : Bytes) → ReadAs q b n → ⊥)
-      → read_padded flags b ≡ record { checked = Refused EUCLEAN; name = packed [] }
+      → read_padded flags b ≡ Err EUCLEAN
   -- a name by value: its bytes, and as many zeros as make 255 ("A freed record is all zeros, and so are a record's unused bytes.")
   pub unpacked : (n : Bytes) → name_bytes (packed n) ≡ n
   pub packed_length : (n : Bytes) → length n ≤ 255 → length (packed n).bytes ≡ 255

@@ -1,13 +1,11 @@
 -- Names, document 01, "Names and blocks": which are plain, their padding, and what a decrypted name is read as. Assumes nothing.
-use Rattle.std.specs.Prelude.{ℕ, zero, suc, ◌+◌, ◌-◌, ◌*◌, ◌/◌, max, Bool, cond, not, ◌||◌, [], ◌∷◌, ◌++◌, length, take, drop, eqb, leb, ltb}
+use Rattle.std.specs.Prelude.{ℕ, zero, suc, ◌+◌, ◌-◌, ◌*◌, ◌/◌, max, Bool, cond, not, ◌||◌, [], ◌∷◌, ◌++◌, length, take, drop, eqb, leb, ltb, Result, Ok, Err}
 use Rattle.lists.specs.Bytes.{Bytes, same, zeros, first_at, is_empty}
-use Rattle.errno.specs.Refusals.{◌⇒◌, ◌>>◌, is_fine}
+use Rattle.errno.specs.Refusals.{Checked, fine, ◌⇒◌, ◌>>◌, is_fine}
+use Rattle.errno.specs.declared.Errno.{Errno}
 use Rattle.errno.specs.declared.Errno.TheVariants.{ENOENT, ENAMETOOLONG, EINVAL, EUCLEAN}
-use Rattle.errno.specs.declared.Checked.{Checked}
-use Rattle.errno.specs.declared.Checked.TheVariants.{Fine, Refused}
 use Rattle.fscrypt.specs.Cipher.{Cipher}
 use Rattle.fscrypt.specs.declared.Name.{Name}
-use Rattle.fscrypt.specs.declared.NameRead.{NameRead}
 
 -- ---- plain names: "1 to 255 bytes, no NUL, no `/`, and isn't `.` or `..`"
 
@@ -34,7 +32,7 @@ name_check n = do
   is_empty n ⇒ ENOENT
   is_long n ⇒ ENAMETOOLONG
   is_bad_name n ⇒ EINVAL
-  Fine
+  fine
 
 -- ---- padding
 
@@ -80,7 +78,7 @@ padding_check flags b = do
   not (is_all_nul (drop (first_at is_nul b) b)) ⇒ EUCLEAN
   not (is_fine (name_check (before_nul b))) ⇒ EUCLEAN
   not (eqb (padded_length flags (length (before_nul b))) (length b)) ⇒ EUCLEAN
-  Fine
+  fine
 
 -- ---- names by value
 
@@ -92,6 +90,11 @@ abbrev pub packed : Bytes → Name
 packed s = record { len = length s; bytes = s ++ zeros (255 - length s) }
 
 -- what decrypted bytes are read as
-unfoldable pub read_padded : ℕ → Bytes → NameRead
+unfoldable pub read_padded : ℕ → Bytes → Result Name Errno
 read_padded flags b =
-    cond (is_fine (padding_check flags b)) (record { checked = Fine; name = packed (before_nul b) }) (record { checked = Refused EUCLEAN; name = packed [] })
+    cond (is_fine (padding_check flags b)) (Ok (packed (before_nul b))) (Err EUCLEAN)
+
+-- the name in what was read; where it was refused, one of no bytes
+abbrev pub name_in : Result Name Errno → Name
+name_in (Ok n) = n
+name_in (Err e) = packed []

@@ -5,6 +5,7 @@
 ghost use Rattle.std.specs.Prelude.{◌≡◌};
 ghost use Rattle.ciphers.specs.Entries.{outcome, cts_encrypt, cts_decrypt, xts_encrypt};
 
+// Each is named in docs/CLAIMS.md.
 // Encrypts a text and decrypts it: the answer is encryption's, and the text is what it was, whatever the key and the text.
 pub fn text_back(key: &[u8], text: &mut [u8]) -> ciphers::Status
     ensures { outcome result text.new ≡ outcome (cts_encrypt key.now text.old).status text.old }

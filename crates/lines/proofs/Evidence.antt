@@ -4,13 +4,12 @@ use Prim.Native.Nat.{ℕ}
 use native.Mathlib.Omega.{arith}
 use mathlib.Core.Path.{◌≡◌, refl, sym, ◌∙◌, ap, subst}
 use mathlib.Core.Logic.{◌≢◌, ◌⊎◌, inl, inr, ◌↔◌}
-use mathlib.Core.Bool.{Bool, true, false, cond, not, ◌||◌, false≢true}
-use mathlib.Core.Option.{Option, some, none}
+use mathlib.Core.Bool.{Bool, true, false, cond}
+use Rattle.std.specs.Prelude.{Option, Some, None}
 use mathlib.Core.List.{[], ◌∷◌, ◌++◌, append_cancel_right}
 use lib.ListN.{get_or}
 use Rattle.lists.specs.Bytes.{Bytes, ByteList}
 use Rattle.lists.proofs.Slots.{by_test, by_cond}
-use Rattle.errno.specs.declared.Errno.TheVariants.{EXDEV}
 use Rattle.fscrypt.specs.Cipher.{fscrypt}
 use Rattle.fscrypt.proofs.Lawfulness.{fscrypt_lawful}
 use Rattle.volume.specs.Request.{Request, lends, Answer, refused, done, created, at, policy_is, shown, Outcome}
@@ -21,15 +20,10 @@ use Rattle.volume.proofs.Soundness.{sound_kept}
 use Rattle.volume.proofs.Leaves.{leaves}
 use Rattle.volume.proofs.PolicyClause.{policy_clause}
 use Rattle.script.specs.Text.{text}
-use Rattle.script.specs.Numbers.{decimal}
-use Rattle.script.specs.Words.{first_word, after_word}
-use Rattle.script.specs.Commands.{verb_of, shape_of, read_words}
-use Rattle.script.specs.declared.Verb.{Verb}
-use Rattle.script.specs.declared.Args.{Args}
-use Rattle.lines.specs.Answers.{errno_name, error_text, shown_text, answer_text, Said, saying, told, malformed}
-use Rattle.lines.specs.Lines.{request_of, answers_block, told_to, respond, without_return, is_skipped, is_overlong, commanded, ended, answered}
+use Rattle.script.specs.Numbers.{last_digits, decimal}
+use Rattle.lines.specs.Answers.{errno_name, error_text, shown_text, answer_text, Said, saying, told}
+use Rattle.lines.specs.Lines.{answers_block, told_to, without_return, is_skipped, asked, commanded, ended, answered}
 use Rattle.lines.specs.Evidence.{request_in, Evidence}
-use Rattle.lines.proofs.Texts.{error_is}
 use Rattle.lines.proofs.TypedLines.{TypedIn, typed_in}
 use Rattle.lines.proofs.OneLine.{Printing, prints, no_newline, last_after, last_append, named, answer}
 
@@ -49,11 +43,11 @@ no_error : (t : Bytes) → 111 ∷ t ≡ text "error 18 EXDEV" → ⊥
 no_error t = other_start 111 t (omega arith)
 
 by_text : (block : Bool) (a : Answer) (b : Bytes) → (answer_text block a b ≡ text "error 18 EXDEV") ↔ (a ≡ refused 18)
-unfolding answer_text shown_text
+unfolding answer_text shown_text error_text errno_name decimal last_digits
 by_text block a b = (read block a, λ h. ap (λ (x : Answer). answer_text block x b) h ∙ written)
   where
     written : answer_text block (refused 18) b ≡ text "error 18 EXDEV"
-    written = sym (error_is EXDEV)
+    written = refl
 
     read : (t : Bool) (x : Answer) → answer_text t x b ≡ text "error 18 EXDEV" → x ≡ refused 18
     read t (refused n) h = ap refused (number_read n h)
@@ -66,54 +60,37 @@ by_text block a b = (read block a, λ h. ap (λ (x : Answer). answer_text block 
 
 -- ---- a line is answered as its request is
 
--- what is answered, and the request: nothing and none where the line is skipped, else what is said to the request, and a newline
+-- what is answered, and the request: nothing and None where the line is skipped, else what is said to the request, and a newline
 data Answers (v : Volume) (x : Said) (o : Option Request) : Type 0 where
-  skipped : x ≡ saying [] v → o ≡ none → Answers v x o
-  asked : x ≡ ended (told_to v o) → Answers v x o
+  skipped : x ≡ saying [] v → o ≡ None → Answers v x o
+  requested : x ≡ ended (told_to v o) → Answers v x o
 
 by_request : (v : Volume) (line : Bytes) → answered v line ≡ cond (is_skipped (without_return line)) (saying [] v) (ended (told_to v (request_in line)))
-unfolding answered commanded respond request_in
-by_request v line = go (is_skipped l) (is_overlong l) a.good
+unfolding answered commanded request_in
+by_request v line = go (is_skipped l)
   where
     l : Bytes
     l = without_return line
 
-    verb : Verb
-    verb = verb_of (first_word l)
+    go : (skip : Bool) → cond skip (saying [] v) (ended (told_to v (asked l))) ≡ cond skip (saying [] v) (ended (told_to v (cond skip None (asked l))))
+    go true = refl
+    go false = refl
 
-    a : Args
-    a = (read_words (shape_of verb) (after_word l)).args
-
-    o : Option Request
-    o = request_of verb a (read_words (shape_of verb) (after_word l)).bytes
-
-    go : (skip long good : Bool)
-        → cond skip (saying [] v) (ended (cond long (malformed v) (cond good (told_to v o) (malformed v))))
-        ≡ cond skip (saying [] v) (ended (told_to v (cond (skip || (long || not good)) none o)))
-    go true long good = refl
-    go false true good = refl
-    go false false false = refl
-    go false false true = refl
-
-skips : (t x : Bool) (o : Option Request) → t ≡ true → cond (t || x) none o ≡ none
-skips true x o h = refl
-skips false x o h = absurd (false≢true h)
-
-skipped_none : (line : Bytes) → is_skipped (without_return line) ≡ true → request_in line ≡ none
+skipped_none : (line : Bytes) → is_skipped (without_return line) ≡ true → request_in line ≡ None
 unfolding request_in
-skipped_none line h = skips (is_skipped (without_return line)) _ _ h
+skipped_none line h = rw h
 
 answers : (v : Volume) (line : Bytes) → Answers v (answered v line) (request_in line)
 answers v line =
     by_test (is_skipped (without_return line))
     (λ h. skipped (by_request v line ∙ ap (λ (t : Bool). cond t (saying [] v) (ended (told_to v (request_in line)))) h) (skipped_none line h))
-    (λ h. asked (by_request v line ∙ ap (λ (t : Bool). cond t (saying [] v) (ended (told_to v (request_in line)))) h))
+    (λ h. requested (by_request v line ∙ ap (λ (t : Bool). cond t (saying [] v) (ended (told_to v (request_in line)))) h))
 
 -- ---- a line leaves a sound volume sound
 
 told_sound : (v : Volume) → Sound v → (o : Option Request) → TypedIn o → Sound (told_to v o).volume
-told_sound v s none t = s
-told_sound v s (some r) t = sound_kept fscrypt fscrypt_lawful v s r t
+told_sound v s None t = s
+told_sound v s (Some r) t = sound_kept fscrypt fscrypt_lawful v s r t
 
 stays_sound : (v : Volume) → Sound v → (line : Bytes) → ByteList line → Sound (answered v line).volume
 stays_sound v s line h =
@@ -124,12 +101,12 @@ stays_sound v s line h =
 -- ---- an answer is one line
 
 told_prints : (v : Volume) (o : Option Request) → Printing (told_to v o).said
-told_prints v none = prints refl
-told_prints v (some r) = answer (answers_block (lends r)) _ _
+told_prints v None = prints refl
+told_prints v (Some r) = answer (answers_block (lends r)) _ _
 
 one_line : {v : Volume} {x : Said} {o : Option Request} → Answers v x o → (x.said ≡ []) ⊎ ((t : Bytes) × ((i : ℕ) → get_or t i 0 ≢ 10) × (x.said ≡ t ++ text "\n"))
 one_line (skipped e n) = inl (ap (λ (y : Said). y.said) e)
-one_line {v} {x} {o} (asked e) = inr ((told_to v o).said, no_newline _ (told_prints v o), ap (λ (y : Said). y.said) e)
+one_line {v} {x} {o} (requested e) = inr ((told_to v o).said, no_newline _ (told_prints v o), ap (λ (y : Said). y.said) e)
 
 -- ---- what the text proves
 
@@ -138,21 +115,21 @@ abbrev Says18 : Said → Type 0
 Says18 x = x.said ≡ text "error 18 EXDEV\n"
 
 abbrev Refused18 : Volume → Option Request → Type 0
-Refused18 v o = (r : Request) × (o ≡ some r) × GivesRefusal fscrypt v r
+Refused18 v o = (r : Request) × (o ≡ Some r) × GivesRefusal fscrypt v r
 
 request_read : (v : Volume) (o : Option Request) → (told_to v o).said ≡ text "error 18 EXDEV" → Refused18 v o
-request_read v none h = absurd (other_start 109 _ (omega arith) h)
-request_read v (some r) h = (r, refl, (by_text _ _ _).0 h)
+request_read v None h = absurd (other_start 109 _ (omega arith) h)
+request_read v (Some r) h = (r, refl, (by_text _ _ _).0 h)
 
 module _ (v : Volume) {x : Said} {o : Option Request} where
   line_read : Answers v x o → Says18 x → Refused18 v o
   line_read (skipped e n) h = let z = ap (λ (l : Bytes). get_or l 0 0) (sym (ap (λ (y : Said). y.said) e) ∙ h) in absurd (omega (arith, z))
-  line_read (asked e) h = request_read v _ (append_cancel_right _ (text "error 18 EXDEV") (text "\n") (sym (ap (λ (y : Said). y.said) e) ∙ h))
+  line_read (requested e) h = request_read v _ (append_cancel_right _ (text "error 18 EXDEV") (text "\n") (sym (ap (λ (y : Said). y.said) e) ∙ h))
 
   -- a request that is refused so is answered so, and leaves the volume
-  line_said : (r : Request) → GivesRefusal fscrypt v r → Answers v x o → o ≡ some r → x ≡ saying (text "error 18 EXDEV\n") v
+  line_said : (r : Request) → GivesRefusal fscrypt v r → Answers v x o → o ≡ Some r → x ≡ saying (text "error 18 EXDEV\n") v
   line_said r h (skipped e n) q = let z : ◌≡◌ {A = ℕ} 0 1 = cc in absurd (omega arith)
-  line_said r h (asked e) q =
+  line_said r h (requested e) q =
       let block = answers_block (lends r) in
       e
       ∙ ap (λ (y : Option Request). ended (told_to v y)) q

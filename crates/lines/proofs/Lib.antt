@@ -1,8 +1,8 @@
 -- The laws of lines.
 pub mod Texts
-pub mod Saying
 pub mod Answering
+pub mod Saying
 pub mod Room
-mod OneLine
 mod TypedLines
+mod OneLine
 pub mod Evidence

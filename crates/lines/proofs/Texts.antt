@@ -1,36 +1,47 @@
--- Texts at the start of a buffer: one after another, a refusal's, and how long each is.
--- Assumes nothing.
-use Prim.Native.Nat.{ℕ, ◌+◌, ◌*◌, ◌≤◌, ◌<◌, min}
+-- Texts after one another, at the start of a buffer, and how long they are; and the text of each refusal, letter for letter, by computing. Assumes nothing.
+use Prim.Native.Nat.{ℕ, ◌+◌, ◌≤◌, ◌<◌}
 use native.Mathlib.Omega.{arith}
-use mathlib.Core.Path.{◌≡◌, refl, sym, ◌∙◌, ap}
-use mathlib.Core.Bool.{Bool, true, false}
+use mathlib.Core.Path.{◌≡◌, refl, ◌∙◌, ap}
 use mathlib.Core.List.{◌++◌}
-use lib.ListN.{length, take, length-append}
-use lib.Seq.{sets, take_all}
-use lib.Dec.{leb}
-use borrow.Author.Tests.{leb-true, leb-false}
+use lib.ListN.{length, length-append}
+use lib.Seq.{sets}
 use Rattle.lists.specs.Bytes.{Bytes}
+use Rattle.lists.proofs.Copies.{sets_more}
 use Rattle.errno.specs.Refusals.{number}
 use Rattle.errno.specs.declared.Errno.{Errno}
 use Rattle.errno.specs.declared.Errno.TheVariants.{EPERM, ENOENT, EEXIST, EXDEV, ENOTDIR, EINVAL, ENOSPC, ERANGE, ENAMETOOLONG, ENOTEMPTY, ENODATA, ENOTUNIQ, EUCLEAN, ENOKEY}
-use Rattle.volume.specs.Request.{Form, Plain, Decrypted, Encoded, ShownEntry}
-use Rattle.script.proofs.Digits.{decimal_length}
-use Rattle.script.proofs.Stores.{then_sets}
-use Rattle.script.specs.Strings.{name_text}
-use Rattle.script.proofs.Hex.{name_text_length}
 use Rattle.script.specs.Text.{text}
 use Rattle.script.specs.Numbers.{last_digits, decimal}
-use Rattle.lines.specs.Answers.{errno_name, error_text, Written, field, form_name, shown_head, shown_tail}
+use Rattle.script.proofs.Digits.{decimal_length}
+use Rattle.lines.specs.Answers.{errno_name, error_text, field, Written, Adds}
+use Rattle.lines.specs.declared.text.Text.{Text}
 
--- a text stored from position 0 on
-pub begun : {c : Bytes} {n : ℕ} (b t : Bytes) → length t < length b → (n ≡ 0 + length t) × (c ≡ sets b 0 t) → Written b c n t
-begun b t k h = (omega (arith, h.0), h.1, k)
+module _ {a b c : Text} {s t : Bytes} where
+  -- a text after a text that was put
+  pub then_adds : Adds a b s → Adds b c t → Adds a c (s ++ t)
+  then_adds h k = record {
+    buffer = k.buffer ∙ h.buffer;
+    len = omega (arith, h.len, k.len, length-append s t);
+    out = k.out ∙ ap (λ (o : Bytes). sets o b.len t) h.out ∙ ap (λ (i : ℕ). sets (sets a.out.now a.len s) i t) h.len ∙ sets_more a.out.now a.len s t;
+    size = k.size ∙ h.size;
+  }
 
--- `ok`, and a text after it
-pub after_ok : {c d : Bytes} {m n : ℕ} (b t : Bytes) → 3 + length t < length b → (m ≡ 0 + length (text "ok ")) × (c ≡ sets b 0 (text "ok ")) → (n ≡ m + length t) × (d ≡ sets c m t) → Written b d n (text "ok " ++ t)
-after_ok b t k h g = begun b (text "ok " ++ t) (omega arith) (then_sets b 0 (text "ok ") t h g)
+  -- a text after the buffer's text
+  pub stands_after : Written a b s → Adds b c t → c.out.now ≡ sets a.out.now 0 (s ++ t)
+  stands_after h k =
+      let e : b.len ≡ 0 + length s = omega (arith, h.len) in
+      k.out ∙ ap (λ (o : Bytes). sets o b.len t) h.out ∙ ap (λ (i : ℕ). sets (sets a.out.now 0 s) i t) e ∙ sets_more a.out.now 0 s t
 
--- a refusal as code writes it
+  pub then_written : Written a b s → Adds b c t → length (s ++ t) < length a.out.now → Written a c (s ++ t)
+  then_written h k l = record { buffer = k.buffer ∙ h.buffer; len = omega (arith, h.len, k.len, length-append s t); out = stands_after h k; size = k.size ∙ h.size; room = l }
+
+-- ---- how long texts are
+
+pub field_length : (n : ℕ) → length (field n) ≤ 21
+field_length n = omega (arith, decimal_length n, length-append (decimal n) (text " "))
+
+-- ---- a refusal, letter for letter
+
 abbrev pub shown_error : Errno → Bytes
 shown_error EPERM = text "error 1 EPERM"
 shown_error ENOENT = text "error 2 ENOENT"
@@ -64,7 +75,7 @@ error_is ENOTUNIQ = refl
 error_is EUCLEAN = refl
 error_is ENOKEY = refl
 
-error_length : (e : Errno) → length (shown_error e) ≤ 30
+pub error_length : (e : Errno) → length (shown_error e) ≤ 30
 error_length EPERM = omega arith
 error_length ENOENT = omega arith
 error_length EEXIST = omega arith
@@ -79,44 +90,3 @@ error_length ENODATA = omega arith
 error_length ENOTUNIQ = omega arith
 error_length EUCLEAN = omega arith
 error_length ENOKEY = omega arith
-
-pub wrote_error : (b c : Bytes) (n : ℕ) (e is : Errno) → 1000 ≤ length b → e ≡ is → (n ≡ 0 + length (shown_error is)) × (c ≡ sets b 0 (shown_error is)) → Written b c n (error_text (number e))
-wrote_error b c n e is k h w = rw (h, ← error_is is) (begun b (shown_error is) (omega (arith, error_length is)) w)
-
--- the name is cut to the buffer, which it fits
-pub take_least : (k : ℕ) (b : Bytes) → take (min k (length b)) b ≡ take k b
-take_least k b = go (leb k (length b)) refl
-  where
-    go : (t : Bool) → leb k (length b) ≡ t → take (min k (length b)) b ≡ take k b
-    go true e = let h : min k (length b) ≡ k = omega (arith, leb-true k (length b) e) in ap (λ (n : ℕ). take n b) h
-    go false e =
-        let h : length b ≤ k = omega (arith, leb-false k (length b) e) in
-        let g : length b ≤ min k (length b) = omega arith in take_all _ b g ∙ sym (take_all k b h)
-
--- ---- how long texts are
-
-pub field_length : (n : ℕ) → length (field n) ≤ 21
-field_length n = omega (arith, decimal_length n, length-append (decimal n) (text " "))
-
-pub form_length : (f : Form) → length (text (form_name f)) ≤ 9
-form_length Plain = omega arith
-form_length Decrypted = omega arith
-form_length Encoded = omega arith
-
-pub head_length : (s : ShownEntry) → length (shown_head s) ≤ 66
-head_length s =
-    let a = field s.parent.0 in
-    let b = field s.inode.0 in
-    let c = field s.kind in
-    omega (arith, length-append (text "ok ") (a ++ (b ++ c)), length-append a (b ++ c), length-append b c, field_length s.parent.0, field_length s.inode.0, field_length s.kind)
-
--- a text after the text at the start
-pub then_written : {c d : Bytes} {m n : ℕ} (b s t : Bytes) → length (s ++ t) < length b → Written b c m s → (n ≡ m + length t) × (d ≡ sets c m t) → Written b d n (s ++ t)
-then_written b s t k h g = begun b (s ++ t) k (then_sets b 0 s t (omega (arith, h.0), h.1) g)
-
-pub tail_length : (s : ShownEntry) (name : Bytes) → length (shown_tail s name) ≤ 40 + 2 * length name
-tail_length s name =
-    let f = text (form_name s.form) in
-    let n = field s.len in
-    let t = name_text name in
-    omega (arith, length-append f (text " " ++ (n ++ t)), length-append (text " ") (n ++ t), length-append n t, form_length s.form, field_length s.len, name_text_length name)

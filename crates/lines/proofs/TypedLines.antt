@@ -3,32 +3,29 @@
 use Prim.Native.Nat.{ℕ, ◌-◌, ◌+◌, ◌*◌, ◌≤◌}
 use native.Mathlib.Omega.{arith}
 use mathlib.Core.Path.{◌≡◌, refl, sym, ◌∙◌, ap, subst}
-use mathlib.Core.Bool.{not, ◌||◌}
-use mathlib.Core.Option.{Option, some, none}
-use mathlib.Core.List.{[], ◌∷◌}
+use mathlib.Core.List.{List, [], ◌∷◌}
 use lib.ListN.{length, drop, take, get_or}
 use lib.Dec.{leb, eqb}
 use borrow.Author.Tests.{leb-true}
-use Rattle.lists.specs.Bytes.{Bytes, ByteList, same, zeros, first_at, is_empty}
+use Rattle.std.specs.Prelude.{Option, Some, None, option_and_then}
+use Rattle.lists.specs.Bytes.{Bytes, ByteList, zeros, first_at}
 use Rattle.lists.proofs.ByteStrings.{nil_bytes, cons_bytes, take_bytes, drop_bytes, zeros_bytes, length_zeros}
 use Rattle.lists.proofs.Slots.{by_cond}
 use Rattle.lists.proofs.Tests.{eqb-true, and_right}
 use Rattle.volume.specs.Request.{Request, show, Typed}
-use Rattle.script.specs.Text.{text}
 use Rattle.script.specs.Words.{trimmed, first_word, after_word, is_blank, is_not_blank}
-use Rattle.script.specs.Numbers.{is_digit, number_of}
+use Rattle.script.specs.Numbers.{is_digit}
 use Rattle.script.specs.Strings.{is_lower_hex, is_upper_hex, hex_value, is_quoted, is_byte_string, from_hex, bytes_of}
-use Rattle.script.specs.Commands.{bad, with_first, set_second, with_second, with_len, with_descriptor, with_nonce, is_bytes, taken, taken_text, Reading, next, shape_of, read_words, verb_of}
-use Rattle.script.specs.declared.Number.{Number}
-use Rattle.script.specs.declared.Number.TheVariants.{Is, Not}
+use Rattle.script.specs.Commands.{no_args, taken_text, Reading, reading, shape_of, read_words}
 use Rattle.script.specs.declared.Verb.{Verb}
-use Rattle.script.specs.declared.Verb.TheVariants.{AddKey, RemoveKey, SetPolicy, GetPolicy, Create, Link, Rename, Exchange, Remove, Find, Show, Seal, Open, Unknown}
+use Rattle.script.specs.declared.Verb.TheVariants.{AddKey, RemoveKey, SetPolicy, GetPolicy, Create, Link, Rename, Exchange, Remove, Find, Show, Seal, Open}
 use Rattle.script.specs.declared.Sort.{Sort}
-use Rattle.script.specs.declared.Sort.TheVariants.{First, Second, Text, Descriptor, Nonce, Size, Nothing}
-use Rattle.script.specs.declared.Shape.{Shape}
+use Rattle.script.specs.declared.Sort.TheVariants.{First, Second, Text, Descriptor, Nonce, Size}
 use Rattle.script.specs.declared.Args.{Args}
-use Rattle.lines.specs.Lines.{entry, request_of, without_return, is_skipped, is_overlong}
+use Rattle.script.proofs.Taking.{taken_gives, Keeps, read_keeps}
+use Rattle.lines.specs.Lines.{entry, request_of, without_return, is_skipped, words_in, asked}
 use Rattle.lines.specs.Evidence.{request_in}
+use Rattle.lines.proofs.Answering.{words_given}
 
 -- ---- the bytes of words
 
@@ -81,77 +78,63 @@ alike d n h = record {
   nonce_bytes = subst ByteList n h.nonce_bytes;
 }
 
-first_sized : (a : Args) (n : Number) → Sized a → Sized (with_first a n)
-first_sized a (Is n) h = alike refl refl h
-first_sized a Not h = alike refl refl h
-
-second_sized : (a : Args) (n : Number) → Sized a → Sized (with_second a n)
-second_sized a (Is n) h = alike refl refl h
-second_sized a Not h = alike refl refl h
-
-taken_sized : (a : Args) (s : Sort) (w : Bytes) → ByteList w → Sized a → Sized (taken a s w)
-unfolding taken
-taken_sized a First w b h = first_sized a (number_of w) h
-taken_sized a Second w b h = second_sized a (number_of w) h
-taken_sized a Text w b h = by_cond Sized (is_byte_string w) (with_len a (length (bytes_of w))) (bad a) (λ q. alike refl refl h) (λ q. alike refl refl h)
-taken_sized a Descriptor w b h =
-    by_cond Sized (is_bytes 8 w) (with_descriptor a (bytes_of w)) (bad a)
-    (λ q. record {
-      descriptor_length = eqb-true (and_right (is_byte_string w) (eqb (length (bytes_of w)) 8) q);
-      descriptor_bytes = bytes_of_lem w b;
-      nonce_length = h.nonce_length;
-      nonce_bytes = h.nonce_bytes;
-    })
-    (λ q. alike refl refl h)
-taken_sized a Nonce w b h =
-    by_cond Sized (same w (text "-")) (with_nonce a (zeros 16)) _
-    (λ q. record { descriptor_length = h.descriptor_length; descriptor_bytes = h.descriptor_bytes; nonce_length = length_zeros 16; nonce_bytes = zeros_bytes 16 })
-    (λ z.
-    by_cond Sized (is_bytes 16 w) (with_nonce a (bytes_of w)) (bad a)
-    (λ q. record {
-      descriptor_length = h.descriptor_length;
-      descriptor_bytes = h.descriptor_bytes;
-      nonce_length = eqb-true (and_right (is_byte_string w) (eqb (length (bytes_of w)) 16) q);
-      nonce_bytes = bytes_of_lem w b;
-    })
-    (λ q. alike refl refl h))
-taken_sized a Size w b h = by_cond Sized (is_empty w) (set_second a 255) (with_second a (number_of w)) (λ q. alike refl refl h) (λ q. second_sized a (number_of w) h)
-taken_sized a Nothing w b h = by_cond Sized (is_empty w) a (bad a) (λ q. h) (λ q. alike refl refl h)
+-- a word that is taken keeps them, and all words do
+record Read (p : Reading) (rest : Bytes) : Type 0 where
+  args : Sized p.args
+  bytes : ByteList p.bytes
+  line : ByteList rest
 
 text_bytes : (t : Bytes) (s : Sort) (w : Bytes) → ByteList w → ByteList t → ByteList (taken_text t s w)
 unfolding taken_text
-text_bytes t Text w b h = by_cond ByteList (is_byte_string w) (bytes_of w) t (λ q. bytes_of_lem w b) (λ q. h)
+text_bytes t Text w b h = bytes_of_lem w b
 text_bytes t First w b h = h
 text_bytes t Second w b h = h
 text_bytes t Descriptor w b h = h
 text_bytes t Nonce w b h = h
 text_bytes t Size w b h = h
-text_bytes t Nothing w b h = h
 
-record Read (p : Reading) : Type 0 where
-  args : Sized p.args
-  bytes : ByteList p.bytes
-  line : ByteList p.line
+word_read : Keeps Read
+word_read p line h s a e =
+    let b = first_word_lem line h.line in
+    let w = first_word line in
+    record {
+      args = taken_gives Sized p.args w (record {
+        first = λ n. alike refl refl h.args;
+        second = λ n. alike refl refl h.args;
+        text_is = λ t. alike refl refl h.args;
+        descriptor = λ t. record {
+          descriptor_length = eqb-true (and_right (is_byte_string w) (eqb (length (bytes_of w)) 8) t);
+          descriptor_bytes = bytes_of_lem w b;
+          nonce_length = h.args.nonce_length;
+          nonce_bytes = h.args.nonce_bytes;
+        };
+        no_nonce = record { descriptor_length = h.args.descriptor_length; descriptor_bytes = h.args.descriptor_bytes; nonce_length = length_zeros 16; nonce_bytes = zeros_bytes 16 };
+        nonce = λ t. record {
+          descriptor_length = h.args.descriptor_length;
+          descriptor_bytes = h.args.descriptor_bytes;
+          nonce_length = eqb-true (and_right (is_byte_string w) (eqb (length (bytes_of w)) 16) t);
+          nonce_bytes = bytes_of_lem w b;
+        };
+      }) s a e;
+      bytes = text_bytes p.bytes s w b h.bytes;
+      line = after_word_lem line h.line;
+    }
 
-next_read : (p : Reading) (s : Sort) → Read p → Read (next p s)
-next_read p s h =
-    let w = first_word_lem p.line h.line in
-    record { args = taken_sized p.args s _ w h.args; bytes = text_bytes p.bytes s _ w h.bytes; line = after_word_lem p.line h.line }
-
-all_read : (s : Shape) (line : Bytes) → ByteList line → Read (read_words s line)
+all_read : (shape : List Sort) (line : Bytes) (p : Reading) → ByteList line → read_words shape line ≡ Some p → Sized p.args × ByteList p.bytes
 unfolding read_words
-all_read s line h =
-    next_read _ Nothing (next_read _ s.four (next_read _ s.three (next_read _ s.two (next_read _ s.one (record {
+all_read shape line p h e =
+    let r = (read_keeps Read word_read shape (reading no_args []) p line (record {
       args = record { descriptor_length = length_zeros 8; descriptor_bytes = zeros_bytes 8; nonce_length = length_zeros 16; nonce_bytes = zeros_bytes 16 };
       bytes = nil_bytes;
       line = h;
-    })))))
+    }) e).1 in
+    (r.args, r.bytes)
 
 -- ---- its request
 
 abbrev pub TypedIn : Option Request → Type 0
-TypedIn none = Unit {0}
-TypedIn (some r) = Typed r
+TypedIn None = Unit {0}
+TypedIn (Some r) = Typed r
 
 typed_of : (verb : Verb) (a : Args) (t : Bytes) → Sized a → ByteList t → TypedIn (request_of verb a t)
 typed_of AddKey a t h b = (h.descriptor_length, h.descriptor_bytes, b)
@@ -164,17 +147,19 @@ typed_of Rename a t h b = b
 typed_of Exchange a t h b = tt
 typed_of Remove a t h b = tt
 typed_of Find a t h b = b
-typed_of Show a t h b = by_cond TypedIn (leb a.second 4096) (some (show (entry a.first) (zeros a.second))) none (λ q. zeros_bytes a.second) (λ q. tt)
+typed_of Show a t h b = by_cond TypedIn (leb a.second 4096) (Some (show (entry a.first) (zeros a.second))) None (λ q. zeros_bytes a.second) (λ q. tt)
 typed_of Seal a t h b = b
 typed_of Open a t h b = b
-typed_of Unknown a t h b = tt
+
+typed_asked : (l : Bytes) → ByteList l → TypedIn (asked l)
+typed_asked l h = go (words_in l) refl
+  where
+    go : (o : Option (Verb × Reading)) → words_in l ≡ o → TypedIn (option_and_then (λ (w : Verb × Reading). request_of w.0 w.1.args w.1.bytes) o)
+    go None e = tt
+    go (Some w) e = let r = all_read (shape_of w.0) (after_word l) w.1 (after_word_lem l h) (words_given l w e) in typed_of w.0 w.1.args w.1.bytes r.0 r.1
 
 pub typed_in : (line : Bytes) → ByteList line → TypedIn (request_in line)
 unfolding request_in
 typed_in line h =
     let l = without_return line in
-    let verb = verb_of (first_word l) in
-    let words = read_words (shape_of verb) (after_word l) in
-    let r = all_read (shape_of verb) (after_word l) (after_word_lem l (without_return_lem line h)) in
-    by_cond TypedIn (is_skipped l || (is_overlong l || not words.args.good)) none (request_of verb words.args words.bytes) (λ q. tt)
-    (λ q. typed_of verb words.args words.bytes r.args r.bytes)
+    by_cond TypedIn (is_skipped l) None (asked l) (λ q. tt) (λ q. typed_asked l (without_return_lem line h))

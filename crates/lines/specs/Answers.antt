@@ -1,5 +1,5 @@
 -- Answers as text, the request script's "Requests and answers". Quotations are the request script's. Assumes nothing.
-use Rattle.std.specs.Prelude.{ℕ, ◌<◌, ◌≡◌, Bool, true, false, cond, ◌++◌, length, take, eqb}
+use Rattle.std.specs.Prelude.{ℕ, ◌+◌, ◌*◌, ◌<◌, ◌≤◌, ◌≡◌, Bool, true, false, cond, ◌++◌, length, take, eqb, Result, Ok, Err}
 use Prim.Native.String.{String}
 use Rattle.std.proofs.lemmas.List.Edits.{sets}
 use Rattle.lists.specs.Bytes.{Bytes}
@@ -8,6 +8,9 @@ use Rattle.script.specs.Numbers.{decimal}
 use Rattle.script.specs.Strings.{to_hex, name_text}
 use Rattle.volume.specs.Request.{Answer, refused, done, created, at, policy_is, shown, Outcome, Form, Plain, Decrypted, Encoded, ShownEntry}
 use Rattle.volume.specs.declared.Volume.{Volume}
+use Rattle.errno.specs.Refusals.{number}
+use Rattle.errno.specs.declared.Errno.{Errno}
+use Rattle.lines.specs.declared.text.Text.{Text}
 
 -- Linux's name of a refusal's number
 unfoldable pub errno_name : ℕ → String
@@ -63,9 +66,29 @@ answer_text block (at e) b = text "ok " ++ decimal e.0
 answer_text block (policy_is p) b = text "ok " ++ to_hex p
 answer_text block (shown s) b = shown_text s b
 
--- a text at the start of a buffer, n bytes of it, with room for one more
-abbrev pub Written : Bytes → Bytes → ℕ → Bytes → Type 0
-Written before after n t = (n ≡ length t) × (after ≡ sets before 0 t) × (length t < length before)
+-- what a request comes to, as an answer
+abbrev pub result_answer : {A : Type 0} → (A → Answer) → Result A Errno → Answer
+result_answer f (Ok a) = f a
+result_answer f (Err e) = refused (number e)
+
+-- a text is the buffer's text now, with room for one byte more
+pub record Written (before after : Text) (t : Bytes) : Type 0 where
+  pub buffer : after.out.ghost_name ≡ before.out.ghost_name
+  pub len : after.len ≡ length t
+  pub out : after.out.now ≡ sets before.out.now 0 t
+  pub size : length after.out.now ≡ length before.out.now
+  pub room : length t < length before.out.now
+
+-- a text is put after the buffer's text
+pub record Adds (before after : Text) (t : Bytes) : Type 0 where
+  pub buffer : after.out.ghost_name ≡ before.out.ghost_name
+  pub len : after.len ≡ before.len + length t
+  pub out : after.out.now ≡ sets before.out.now before.len t
+  pub size : length after.out.now ≡ length before.out.now
+
+-- there is room for an answer with these bytes, and a newline
+abbrev pub HasRoomFor : Bytes → Text → Type 0
+HasRoomFor b t = 1000 + 2 * length b ≤ length t.out.now
 
 -- what is said to a line, and the volume then
 pub record Said : Type 0 where

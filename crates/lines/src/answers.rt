@@ -1,191 +1,166 @@
-// Answers as text, at the start of a buffer. Each function returns how many bytes there are.
-ghost use Rattle.std.specs.Prelude.{◌≡◌, true, false, [], ◌++◌, ◌+◌, ◌*◌, ◌≤◌, min, length};
-ghost use Rattle.std.proofs.lemmas.List.Edits.{sets};
+// Answers as text.
+ghost use Rattle.std.specs.Prelude.{◌≡◌, true, false, [], ◌++◌, ◌+◌, ◌*◌, ◌≤◌, length};
 ghost use Rattle.errno.specs.Refusals.{number};
-ghost use Rattle.volume.specs.Request.{replied, create_answered, entry_answered, policy_answered, show_answered, form_answered, entry_shown};
-ghost use Rattle.script.specs.Text.{text};
-ghost use Rattle.script.specs.Numbers.{decimal};
+ghost use Rattle.volume.specs.Request.{Answer, refused, done, created, at, replied, policy_answered, show_answered, form_answered, entry_shown};
+ghost use Rattle.script.specs.Text.{text as bytes};
 ghost use Rattle.script.specs.Strings.{to_hex};
-ghost use Rattle.lines.specs.Answers.{error_text, form_name, field, shown_head, shown_tail, shown_text, answer_text, Written};
+ghost use Rattle.lines.specs.Answers.{errno_name, form_name, shown_text, answer_text, result_answer, Written, HasRoomFor};
 
+use crate::text::Text;
 use errno::Errno;
-use script::{numbers, output};
-use volume::{CreateAnswer, EntryAnswer, Form, Reply, ShowAnswer, ShownEntry};
+use ids::EntryNumber;
+use volume::{Created, Form, PolicyOutcome, ShownEntry};
 
-pub fn put_refusal(out: &mut [u8], e: Errno) -> usize
-    requires { 1000 ≤ length out.old }
-    ensures { Written out.old out.new result (error_text (number e)) }
+// What a request answers, as text.
+// It is no `Display`: `write!` promises its text only where it answers Ok, and room is no promise of that; the clause `outcome` of `answer_line` has no such case.
+pub trait Say {
+    ghost answer: { Self → Answer };
+
+    fn say(&self, text: &mut Text)
+        ensures { Written text.old text.new (answer_text false (answer self.now) []) };
+}
+
+impl Say for () {
+    ghost answer = { λ _. done };
+
+    #[tactic(auto, unfolding(crate::specs::Answers::answer_text))]
+    fn say(&self, text: &mut Text) {
+        text.start(b"ok");
+    }
+}
+
+impl Say for Created {
+    ghost answer = { λ c. created c.inode c.entry };
+
+    #[tactic(auto, using(script::proofs::Digits::decimal_length))]
+    fn say(&self, text: &mut Text) {
+        text.start(b"ok ");
+        text.put_decimal(self.inode.0);
+        text.put(b" ");
+        text.put_decimal(self.entry.0);
+    }
+}
+
+impl Say for EntryNumber {
+    ghost answer = { λ e. at e };
+
+    fn say(&self, text: &mut Text) {
+        text.start(b"ok ");
+        text.put_decimal(self.0);
+    }
+}
+
+impl Say for PolicyOutcome {
+    ghost answer = { λ o. policy_answered o.answer o.policy };
+
+    #[tactic(auto, unfolding(crate::specs::Answers::answer_text))]
+    fn say(&self, text: &mut Text) {
+        match self.answer {
+            Ok(()) => say_bytes(text, &self.policy),
+            Err(e) => e.say(text),
+        }
+    }
+}
+
+impl Say for Errno {
+    ghost answer = { λ e. refused (number e) };
+
+    #[tactic(auto, using(script::proofs::Digits::decimal_length))]
+    fn say(&self, text: &mut Text) {
+        text.start(b"error ");
+        text.put_decimal(u64::from(u8::from(*self)));
+        text.put(b" ");
+        text.put(name(*self));
+    }
+}
+
+impl<T: Say> Say for Result<T, Errno> {
+    ghost answer = { result_answer T.answer };
+
+    fn say(&self, text: &mut Text) {
+        match self {
+            Ok(answer) => answer.say(text),
+            Err(e) => e.say(text),
+        }
+    }
+}
+
+// Linux's name of a refusal.
+fn name(e: Errno) -> &'static [u8]
+    ensures name { result.now ≡ bytes (errno_name (number e)) }
+    ensures short { length result.now ≤ 12 }
 {
     match e {
-        Errno::EPERM => output::put(out, 0, b"error 1 EPERM"),
-        Errno::ENOENT => output::put(out, 0, b"error 2 ENOENT"),
-        Errno::EEXIST => output::put(out, 0, b"error 17 EEXIST"),
-        Errno::EXDEV => output::put(out, 0, b"error 18 EXDEV"),
-        Errno::ENOTDIR => output::put(out, 0, b"error 20 ENOTDIR"),
-        Errno::EINVAL => output::put(out, 0, b"error 22 EINVAL"),
-        Errno::ENOSPC => output::put(out, 0, b"error 28 ENOSPC"),
-        Errno::ERANGE => output::put(out, 0, b"error 34 ERANGE"),
-        Errno::ENAMETOOLONG => output::put(out, 0, b"error 36 ENAMETOOLONG"),
-        Errno::ENOTEMPTY => output::put(out, 0, b"error 39 ENOTEMPTY"),
-        Errno::ENODATA => output::put(out, 0, b"error 61 ENODATA"),
-        Errno::ENOTUNIQ => output::put(out, 0, b"error 76 ENOTUNIQ"),
-        Errno::EUCLEAN => output::put(out, 0, b"error 117 EUCLEAN"),
-        Errno::ENOKEY => output::put(out, 0, b"error 126 ENOKEY"),
+        Errno::EPERM => b"EPERM",
+        Errno::ENOENT => b"ENOENT",
+        Errno::EEXIST => b"EEXIST",
+        Errno::EXDEV => b"EXDEV",
+        Errno::ENOTDIR => b"ENOTDIR",
+        Errno::EINVAL => b"EINVAL",
+        Errno::ENOSPC => b"ENOSPC",
+        Errno::ERANGE => b"ERANGE",
+        Errno::ENAMETOOLONG => b"ENAMETOOLONG",
+        Errno::ENOTEMPTY => b"ENOTEMPTY",
+        Errno::ENODATA => b"ENODATA",
+        Errno::ENOTUNIQ => b"ENOTUNIQ",
+        Errno::EUCLEAN => b"EUCLEAN",
+        Errno::ENOKEY => b"ENOKEY",
     }
 }
 
-// The answer of a request that answers no more than that it was done.
-pub fn put_reply(out: &mut [u8], a: Reply) -> usize
-    requires { 1000 ≤ length out.old }
-    ensures { Written out.old out.new result (answer_text false (replied a) []) }
+fn say_bytes(text: &mut Text, s: &[u8])
+    requires { 4 + 2 * length s.now ≤ length text.old.out.now }
+    ensures { Written text.old text.new (bytes "ok " ++ to_hex s.now) }
 {
-    match a {
-        Reply::Done => output::put(out, 0, b"ok"),
-        Reply::Refused(e) => put_refusal(out, e),
-    }
+    text.start(b"ok ");
+    text.put_hex(s);
 }
 
-fn put_numbers(out: &mut [u8], inode: u64, entry: u64) -> usize
-    requires { 1000 ≤ length out.old }
-    ensures { Written out.old out.new result (text "ok " ++ (decimal inode ++ (text " " ++ decimal entry))) }
-{
-    let a = output::put(out, 0, b"ok ");
-    let b = output::put_decimal(out, a, inode);
-    let c = output::put(out, b, b" ");
-    output::put_decimal(out, c, entry)
-}
-
-pub fn put_created(out: &mut [u8], a: CreateAnswer) -> usize
-    requires { 1000 ≤ length out.old }
-    ensures { Written out.old out.new result (answer_text false (create_answered a) []) }
-{
-    match a {
-        CreateAnswer::Created(i, e) => put_numbers(out, i.0, e.0),
-        CreateAnswer::Refused(e) => put_refusal(out, e),
-    }
-}
-
-fn put_number(out: &mut [u8], entry: u64) -> usize
-    requires { 1000 ≤ length out.old }
-    ensures { Written out.old out.new result (text "ok " ++ decimal entry) }
-{
-    let a = output::put(out, 0, b"ok ");
-    output::put_decimal(out, a, entry)
-}
-
-pub fn put_entry(out: &mut [u8], a: EntryAnswer) -> usize
-    requires { 1000 ≤ length out.old }
-    ensures { Written out.old out.new result (answer_text false (entry_answered a) []) }
-{
-    match a {
-        EntryAnswer::At(e) => put_number(out, e.0),
-        EntryAnswer::Refused(e) => put_refusal(out, e),
-    }
-}
-
-fn put_bytes(out: &mut [u8], s: &[u8]) -> usize
-    requires { 4 + 2 * length s.now ≤ length out.old }
-    ensures { Written out.old out.new result (text "ok " ++ to_hex s.now) }
-{
-    let a = output::put(out, 0, b"ok ");
-    output::put_hex(out, a, s)
-}
-
-pub fn put_policy(out: &mut [u8], a: Reply, p: [u8; 12]) -> usize
-    requires { 1000 ≤ length out.old }
-    ensures { Written out.old out.new result (answer_text false (policy_answered a p) []) }
-{
-    match a {
-        Reply::Done => put_bytes(out, &p),
-        Reply::Refused(e) => put_refusal(out, e),
-    }
-}
-
+// Here and below no impl of `Say`: the clause takes the block or the buffer too.
 // The answer of seal and open, with the block where it was done.
-pub fn put_block(out: &mut [u8], a: Reply, block: &[u8]) -> usize
-    requires { (1000 ≤ length out.old) × (4 + 2 * length block.now ≤ length out.old) }
-    ensures { Written out.old out.new result (answer_text true (replied a) block.now) }
+#[tactic(auto, unfolding(crate::specs::Answers::answer_text))]
+pub fn say_block(text: &mut Text, answer: Result<(), Errno>, block: &[u8])
+    requires { HasRoomFor block.now text.old }
+    ensures { Written text.old text.new (answer_text true (replied answer) block.now) }
 {
-    match a {
-        Reply::Done => put_bytes(out, block),
-        Reply::Refused(e) => put_refusal(out, e),
+    match answer {
+        Ok(()) => say_bytes(text, block),
+        Err(e) => e.say(text),
     }
 }
 
-fn put_form(out: &mut [u8], at: usize, f: Form) -> usize
-    requires { at + 9 ≤ length out.old }
-    ensures { (result ≡ at + length (text (form_name (form_answered f)))) × (out.new ≡ sets out.old at (text (form_name (form_answered f)))) }
+fn form_name(f: Form) -> &'static [u8]
+    ensures name { result.now ≡ bytes (form_name (form_answered f)) }
+    ensures short { length result.now ≤ 9 }
 {
     match f {
-        Form::Plain => output::put(out, at, b"plain"),
-        Form::Decrypted => output::put(out, at, b"decrypted"),
-        Form::Encoded => output::put(out, at, b"encoded"),
+        Form::Plain => b"plain",
+        Form::Decrypted => b"decrypted",
+        Form::Encoded => b"encoded",
     }
-}
-
-// A number and a blank after it.
-fn put_field(out: &mut [u8], at: usize, n: u64) -> usize
-    requires { at + 21 ≤ length out.old }
-    ensures { (result ≡ at + length (field n)) × (out.new ≡ sets out.old at (field n)) }
-{
-    let a = output::put_decimal(out, at, n);
-    output::put(out, a, b" ")
-}
-
-fn put_head(out: &mut [u8], s: ShownEntry) -> usize
-    requires { 1000 ≤ length out.old }
-    ensures { Written out.old out.new result (shown_head (entry_shown s)) }
-{
-    let parent = s.parent;
-    let inode = s.inode;
-    let a = output::put(out, 0, b"ok ");
-    let b = put_field(out, a, parent.0);
-    let c = put_field(out, b, inode.0);
-    put_field(out, c, numbers::wide(s.kind))
-}
-
-fn put_tail(out: &mut [u8], at: usize, s: ShownEntry, name: &[u8]) -> usize
-    requires { at + (40 + 2 * length name.now) ≤ length out.old }
-    ensures { (result ≡ at + length (shown_tail (entry_shown s) name.now)) × (out.new ≡ sets out.old at (shown_tail (entry_shown s) name.now)) }
-{
-    let form = s.form;
-    let a = put_form(out, at, form);
-    let b = output::put(out, a, b" ");
-    let c = put_field(out, b, numbers::wide(s.len));
-    output::put_name(out, c, name)
-}
-
-fn count(b: u8) -> usize
-    ensures { (result ≡ b) × (result ≤ 255) }
-{
-    b as usize
-}
-
-fn least(a: usize, b: usize) -> usize
-    ensures { result ≡ min a b }
-{
-    if a < b {
-        return a;
-    }
-    b
 }
 
 // The name is at the buffer's start.
-fn put_shown_entry(out: &mut [u8], s: ShownEntry, buffer: &[u8]) -> usize
-    requires { 1000 ≤ length out.old }
-    ensures { Written out.old out.new result (shown_text (entry_shown s) buffer.now) }
+#[tactic(auto, using(crate::proofs::Texts::field_length))]
+fn say_entry(text: &mut Text, s: ShownEntry, buffer: &[u8])
+    ensures { Written text.old text.new (shown_text (entry_shown s) buffer.now) }
 {
-    let n = least(count(s.len), buffer.len());
-    let at = put_head(out, s);
-    put_tail(out, at, s, &buffer[..n])
+    text.start(b"ok ");
+    text.put_field(s.parent.0);
+    text.put_field(s.inode.0);
+    text.put_field(u64::from(s.kind));
+    text.put(form_name(s.form));
+    text.put(b" ");
+    text.put_field(u64::from(s.len));
+    text.put_name(&buffer[..usize::from(s.len).min(buffer.len())]);
 }
 
-pub fn put_shown(out: &mut [u8], a: ShowAnswer, buffer: &[u8]) -> usize
-    requires { 1000 ≤ length out.old }
-    ensures { Written out.old out.new result (answer_text false (show_answered a) buffer.now) }
+#[tactic(auto, unfolding(crate::specs::Answers::answer_text))]
+pub fn say_shown(text: &mut Text, answer: Result<ShownEntry, Errno>, buffer: &[u8])
+    ensures { Written text.old text.new (answer_text false (show_answered answer) buffer.now) }
 {
-    match a {
-        ShowAnswer::Shown(s) => put_shown_entry(out, s, buffer),
-        ShowAnswer::Refused(e) => put_refusal(out, e),
+    match answer {
+        Ok(s) => say_entry(text, s, buffer),
+        Err(e) => e.say(text),
     }
 }

@@ -1,222 +1,87 @@
-// Each request, made of a line's words, and its answer as text.
-ghost use Rattle.std.specs.Prelude.{◌≡◌, false, [], ◌+◌, ◌*◌, ◌≤◌, length};
-ghost use Rattle.lists.specs.Bytes.{zeros};
-ghost use Rattle.fscrypt.specs.Cipher.{fscrypt};
+// Each request, made of a line's words, and its answer as text. Volume and text go apart: the volume is a value that is handed back, the text is lent.
+ghost use Rattle.std.specs.Prelude.{◌≡◌, true, false, [], ◌+◌, ◌*◌, ◌≤◌, length};
 ghost use Rattle.volume.specs.Request.{replied};
-ghost use Rattle.volume.specs.Request;
-ghost use Rattle.volume.specs.Step.{step};
-ghost use Rattle.script.specs.Text.{text};
-ghost use Rattle.script.specs.declared.Verb.TheVariants.{AddKey, RemoveKey, SetPolicy, GetPolicy, Create, Link, Rename, Exchange, Remove, Find, Show, Seal, Open};
-ghost use Rattle.lines.specs.Answers.{answer_text, Written, told, malformed};
-ghost use Rattle.lines.specs.Lines.{entry, respond, Responds};
+ghost use Rattle.script.specs.declared.Verb.TheVariants.{Show};
+ghost use Rattle.lines.specs.Answers.{answer_text, result_answer, saying, malformed, HasRoomFor};
+ghost use Rattle.lines.specs.Lines.{respond, Responds};
 
-use crate::{Response, answers};
+use crate::answers::{self, Say};
+use crate::text::Text;
+use errno::Errno;
 use ids::{EntryNumber, InodeNumber};
-use script::{Args, Verb, output};
+use script::{Args, Verb};
 use volume::{Changed, Volume};
 
-pub fn malformed_line(v: Volume, out: &mut [u8]) -> Response
-    requires { 1000 ≤ length out.old }
-    ensures { Responds out.old out.new result (malformed v) }
+pub fn malformed(v: Volume, text: &mut Text) -> Volume
+    ensures { Responds text.old text.new result (malformed v) }
 {
-    Response {
-        len: output::put(out, 0, b"malformed"),
-        volume: v,
-    }
+    text.start(b"malformed");
+    v
 }
 
-fn changed(c: Changed, out: &mut [u8]) -> Response
-    requires { 1000 ≤ length out.old }
-    ensures { (result.volume ≡ c.volume) × Written out.old out.new result.len (answer_text false (replied c.answer) []) }
+// A request that changes the volume, answered.
+fn changed<T: Say + Drop>(c: Changed<T>, text: &mut Text) -> Volume
+    ensures { Responds text.old text.new result (saying (answer_text false (result_answer T.answer c.answer) []) c.volume) }
 {
-    let v = c.volume;
-    let answer = c.answer;
-    Response {
-        len: answers::put_reply(out, answer),
-        volume: v,
-    }
+    c.answer.say(text);
+    c.volume
 }
 
-fn add_key(v: Volume, a: Args, key: &[u8], out: &mut [u8]) -> Response
-    requires { 1000 ≤ length out.old }
-    ensures { Responds out.old out.new result (respond v AddKey a key.now) }
+// A request on a block, answered with the block as it is then.
+fn block(v: Volume, answer: Result<(), Errno>, payload: &[u8], text: &mut Text) -> Volume
+    requires { HasRoomFor payload.now text.old }
+    ensures { Responds text.old text.new result (saying (answer_text true (replied answer) payload.now) v) }
 {
-    let d = a.descriptor;
-    changed(requests::add_key(v, d, key), out)
+    answers::say_block(text, answer, payload);
+    v
 }
 
-fn remove_key(v: Volume, a: Args, text: &[u8], out: &mut [u8]) -> Response
-    requires { 1000 ≤ length out.old }
-    ensures { Responds out.old out.new result (respond v RemoveKey a text.now) }
-{
-    let d = a.descriptor;
-    changed(requests::remove_key(v, d), out)
-}
-
-fn set_policy(v: Volume, a: Args, policy: &[u8], out: &mut [u8]) -> Response
-    requires { 1000 ≤ length out.old }
-    ensures { Responds out.old out.new result (respond v SetPolicy a policy.now) }
-{
-    let x = a.nonce;
-    changed(
-        requests::set_policy(v, InodeNumber(a.first), policy, x),
-        out,
-    )
-}
-
-fn get_policy(v: Volume, a: Args, text: &[u8], out: &mut [u8]) -> Response
-    requires { 1000 ≤ length out.old }
-    ensures { Responds out.old out.new result (respond v GetPolicy a text.now) }
-{
-    let o = requests::get_policy(v, InodeNumber(a.first));
-    let p = o.policy;
-    let answer = o.answer;
-    Response {
-        len: answers::put_policy(out, answer, p),
-        volume: v,
-    }
-}
-
-fn create(v: Volume, a: Args, name: &[u8], out: &mut [u8]) -> Response
-    requires { 1000 ≤ length out.old }
-    ensures { Responds out.old out.new result (respond v Create a name.now) }
-{
-    let x = a.nonce;
-    let o = requests::create(v, InodeNumber(a.first), a.second, name, x);
-    let w = o.volume;
-    let answer = o.answer;
-    Response {
-        len: answers::put_created(out, answer),
-        volume: w,
-    }
-}
-
-fn link(v: Volume, a: Args, name: &[u8], out: &mut [u8]) -> Response
-    requires { 1000 ≤ length out.old }
-    ensures { Responds out.old out.new result (respond v Link a name.now) }
-{
-    let o = requests::link(v, InodeNumber(a.first), InodeNumber(a.second), name);
-    let w = o.volume;
-    let answer = o.answer;
-    Response {
-        len: answers::put_entry(out, answer),
-        volume: w,
-    }
-}
-
-fn rename(v: Volume, a: Args, name: &[u8], out: &mut [u8]) -> Response
-    requires { 1000 ≤ length out.old }
-    ensures { Responds out.old out.new result (respond v Rename a name.now) }
-{
-    changed(
-        requests::rename(v, EntryNumber(a.first), InodeNumber(a.second), name),
-        out,
-    )
-}
-
-fn exchange(v: Volume, a: Args, text: &[u8], out: &mut [u8]) -> Response
-    requires { 1000 ≤ length out.old }
-    ensures { Responds out.old out.new result (respond v Exchange a text.now) }
-{
-    changed(
-        requests::exchange(v, EntryNumber(a.first), EntryNumber(a.second)),
-        out,
-    )
-}
-
-fn remove(v: Volume, a: Args, text: &[u8], out: &mut [u8]) -> Response
-    requires { 1000 ≤ length out.old }
-    ensures { Responds out.old out.new result (respond v Remove a text.now) }
-{
-    changed(requests::remove(v, EntryNumber(a.first)), out)
-}
-
-fn find(v: Volume, a: Args, name: &[u8], out: &mut [u8]) -> Response
-    requires { 1000 ≤ length out.old }
-    ensures { Responds out.old out.new result (respond v Find a name.now) }
-{
-    Response {
-        len: answers::put_entry(out, requests::find(v, InodeNumber(a.first), name)),
-        volume: v,
-    }
-}
-
-// The lent buffer of a show: SIZE is at most 4,096.
-fn name_buffer() -> [u8; 4096]
-    ensures { result ≡ zeros 4096 }
-{
-    [0u8; 4096]
-}
-
-fn show_in(v: Volume, number: u64, buffer: &mut [u8], out: &mut [u8]) -> Response
-    requires { 1000 ≤ length out.old }
-    ensures { Responds out.old out.new result (told false (step fscrypt v (Request.show (entry number) buffer.old))) }
-{
-    let answer = requests::show(v, EntryNumber(number), buffer);
-    Response {
-        len: answers::put_shown(out, answer, buffer),
-        volume: v,
-    }
-}
-
-fn show_sized(v: Volume, number: u64, size: usize, out: &mut [u8]) -> Response
-    requires { (1000 ≤ length out.old) × (size ≤ 4096) }
-    ensures { Responds out.old out.new result (told false (step fscrypt v (Request.show (entry number) (zeros size)))) }
-{
-    let mut buffer = name_buffer();
-    show_in(v, number, &mut buffer[..size], out)
-}
-
-fn show(v: Volume, a: Args, text: &[u8], out: &mut [u8]) -> Response
-    requires { 1000 ≤ length out.old }
-    ensures { Responds out.old out.new result (respond v Show a text.now) }
+// SIZE is at most 4,096.
+fn show(v: Volume, a: Args, text: &mut Text) -> Volume
+    ensures { Responds text.old text.new result (respond v Show a []) }
 {
     if 4096 < a.second {
-        return malformed_line(v, out);
+        return malformed(v, text);
     }
-    show_sized(v, a.first, a.second as usize, out)
+    let mut room = lists::zeros::<4096>();
+    let buffer = &mut room[..a.second as usize];
+    let answer = requests::show(v, EntryNumber(a.first), buffer);
+    answers::say_shown(text, answer, buffer);
+    v
 }
 
-fn seal(v: Volume, a: Args, block: &mut [u8], out: &mut [u8]) -> Response
-    requires { (1000 ≤ length out.old) × (4 + 2 * length block.old ≤ length out.old) }
-    ensures { Responds out.old out.new result (respond v Seal a block.old) }
+pub fn perform(v: Volume, verb: Verb, a: Args, payload: &mut [u8], text: &mut Text) -> Volume
+    requires { HasRoomFor payload.old text.old }
+    ensures { Responds text.old text.new result (respond v verb a payload.old) }
 {
-    let answer = requests::seal(v, InodeNumber(a.first), a.second, block);
-    Response {
-        len: answers::put_block(out, answer, block),
-        volume: v,
-    }
-}
-
-fn open(v: Volume, a: Args, block: &mut [u8], out: &mut [u8]) -> Response
-    requires { (1000 ≤ length out.old) × (4 + 2 * length block.old ≤ length out.old) }
-    ensures { Responds out.old out.new result (respond v Open a block.old) }
-{
-    let answer = requests::open(v, InodeNumber(a.first), a.second, block);
-    Response {
-        len: answers::put_block(out, answer, block),
-        volume: v,
-    }
-}
-
-pub fn perform(v: Volume, verb: Verb, a: Args, text: &mut [u8], out: &mut [u8]) -> Response
-    requires { (1000 ≤ length out.old) × (4 + 2 * length text.old ≤ length out.old) }
-    ensures { Responds out.old out.new result (respond v verb a text.old) }
-{
+    let inode = InodeNumber(a.first);
+    let entry = EntryNumber(a.first);
+    let parent = InodeNumber(a.second);
     match verb {
-        Verb::AddKey => add_key(v, a, text, out),
-        Verb::RemoveKey => remove_key(v, a, text, out),
-        Verb::SetPolicy => set_policy(v, a, text, out),
-        Verb::GetPolicy => get_policy(v, a, text, out),
-        Verb::Create => create(v, a, text, out),
-        Verb::Link => link(v, a, text, out),
-        Verb::Rename => rename(v, a, text, out),
-        Verb::Exchange => exchange(v, a, text, out),
-        Verb::Remove => remove(v, a, text, out),
-        Verb::Find => find(v, a, text, out),
-        Verb::Show => show(v, a, text, out),
-        Verb::Seal => seal(v, a, text, out),
-        Verb::Open => open(v, a, text, out),
-        Verb::Unknown => malformed_line(v, out),
+        Verb::AddKey => changed(requests::add_key(v, a.descriptor, payload), text),
+        Verb::RemoveKey => changed(requests::remove_key(v, a.descriptor), text),
+        Verb::SetPolicy => changed(requests::set_policy(v, inode, payload, a.nonce), text),
+        Verb::GetPolicy => {
+            requests::get_policy(v, inode).say(text);
+            v
+        }
+        Verb::Create => changed(requests::create(v, inode, a.second, payload, a.nonce), text),
+        Verb::Link => changed(requests::link(v, inode, parent, payload), text),
+        Verb::Rename => changed(requests::rename(v, entry, parent, payload), text),
+        Verb::Exchange => changed(requests::exchange(v, entry, EntryNumber(a.second)), text),
+        Verb::Remove => changed(requests::remove(v, entry), text),
+        Verb::Find => {
+            requests::find(v, inode, payload).say(text);
+            v
+        }
+        Verb::Show => show(v, a, text),
+        Verb::Seal => {
+            let answer = requests::seal(v, inode, a.second, payload);
+            block(v, answer, payload, text)
+        }
+        Verb::Open => {
+            let answer = requests::open(v, inode, a.second, payload);
+            block(v, answer, payload, text)
+        }
     }
 }

@@ -47,10 +47,6 @@ pub length_zeros : (n : ℕ) → length (zeros n) ≡ n
 unfolding zeros
 length_zeros n = length-replicate n 0
 
-pub zeros_more : (n : ℕ) → zeros (suc n) ≡ 0 ∷ zeros n
-unfolding zeros
-zeros_more n = refl
-
 pub take_zeros : (k n : ℕ) → k ≤ n → take k (zeros n) ≡ zeros k
 unfolding zeros
 take_zeros zero n h = refl

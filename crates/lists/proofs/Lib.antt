@@ -1,7 +1,7 @@
 -- The laws of lists.
 pub mod Tests
 pub mod Tables
-pub mod Loops
+pub mod SameBytes
 pub mod Predicates
 pub mod Slots
 pub mod Digits

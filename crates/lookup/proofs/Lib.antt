@@ -1,4 +1,3 @@
 -- The laws of lookup.
-pub mod Shape
-mod Search
 mod Ascent
+mod Search

@@ -8,24 +8,27 @@ use ids::InodeNumber;
 use volume::{DIRECTORY, INODE_SLOTS, Met, Volume};
 
 // The directory that an inode stands in: that of the first entry that holds it, and the root where there is none.
-pub fn parent_of(v: Volume, n: InodeNumber) -> InodeNumber
-    ensures { result ≡ parent_of v n }
+pub fn parent_of(v: &Volume, n: InodeNumber) -> InodeNumber
+    ensures { result ≡ parent_of v.now n }
 {
-    let t = v.entries;
-    let e = entries::entry_at(v, entries::first_link(t, n));
-    e.parent
+    v.entries
+        .iter()
+        .find(|e| entries::is_link(e, n))
+        .map_or(InodeNumber(0), |e| e.parent)
 }
 
 // Climbs until the moved directory or the root is met, whichever is first. The steps are counted, so that it ends on any volume.
-pub fn climb(v: Volume, moved: InodeNumber, from: InodeNumber) -> Met
-    ensures { result ≡ climb_from v moved inode_slots from }
+// It is a loop that yields by `break`: so docs/CLAIMS.md's list of forms has it.
+pub fn climb(v: &Volume, moved: InodeNumber, from: InodeNumber) -> Met
+    ensures { result ≡ climb_from v.now moved inode_slots from }
 {
     let mut at = from;
-    let mut left: usize = INODE_SLOTS;
-    let met = loop {
-        if at.0 == moved.0 {
+    let mut left = INODE_SLOTS;
+    loop {
+        if at == moved {
             break Met::Moved;
         }
+        // The root is number 0, as `climb_from` has it.
         if at.0 == 0 {
             break Met::Root;
         }
@@ -34,21 +37,13 @@ pub fn climb(v: Volume, moved: InodeNumber, from: InodeNumber) -> Met
         }
         at = parent_of(v, at);
         left -= 1;
-    };
-    met
+    }
 }
 
 // Whether a directory would be put under itself: the climb from its new parent, that parent included, meets it.
-pub fn is_under_itself(v: Volume, moved: InodeNumber, parent: InodeNumber) -> bool
-    ensures { result ≡ is_under_itself v moved parent }
+#[tactic(auto, unfolding(volume::specs::Lookup::is_under_itself))]
+pub fn is_under_itself(v: &Volume, moved: InodeNumber, parent: InodeNumber) -> bool
+    ensures { result ≡ is_under_itself v.now moved parent }
 {
-    let i = inodes::inode_at(v, moved);
-    if i.kind != DIRECTORY {
-        return false;
-    }
-    match climb(v, moved, parent) {
-        Met::Moved => true,
-        Met::Root => false,
-        Met::Neither => false,
-    }
+    inodes::inode_at(v, moved).kind == DIRECTORY && matches!(climb(v, moved, parent), Met::Moved)
 }

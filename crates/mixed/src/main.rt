@@ -2,147 +2,99 @@
 #![tactic(auto)]
 
 use ids::{EntryNumber, InodeNumber};
-use volume::{Changed, CreateAnswer, EntryAnswer, Reply, ShowAnswer, Volume};
+use policy::Policy;
+use volume::{Changed, DIRECTORY, REGULAR, Volume};
 
-// The volume, and 1 where the request was done.
+// The encrypted directory.
+const IMAGES: InodeNumber = InodeNumber(1);
+
+// The volume, and whether the request was done. No Result: the volume is there either way.
 #[derive(Clone, Copy)]
 struct Turn {
     volume: Volume,
-    done: u64,
+    done: bool,
 }
 
-fn of_changed(c: Changed) -> Turn {
-    let next = c.volume;
-    let answer = c.answer;
-    match answer {
-        Reply::Done => Turn {
-            volume: next,
-            done: 1,
-        },
-        Reply::Refused(_) => Turn {
-            volume: next,
-            done: 0,
-        },
+impl<T: Drop> From<Changed<T>> for Turn {
+    fn from(changed: Changed<T>) -> Turn {
+        Turn {
+            volume: changed.volume,
+            done: changed.answer.is_ok(),
+        }
     }
-}
-
-fn create(v: Volume, name: &[u8], nonce: [u8; 16]) -> Turn {
-    let o = requests::create(v, InodeNumber(1), 2, name, nonce);
-    let next = o.volume;
-    let answer = o.answer;
-    match answer {
-        CreateAnswer::Created(_, _) => Turn {
-            volume: next,
-            done: 1,
-        },
-        CreateAnswer::Refused(_) => Turn {
-            volume: next,
-            done: 0,
-        },
-    }
-}
-
-fn find(v: Volume, name: &[u8]) -> u64 {
-    match requests::find(v, InodeNumber(1), name) {
-        EntryAnswer::At(_) => 1,
-        EntryAnswer::Refused(_) => 0,
-    }
-}
-
-fn show(v: Volume, n: EntryNumber) -> u64 {
-    let mut buffer = [0u8; 255];
-    match requests::show(v, n, &mut buffer) {
-        ShowAnswer::Shown(_) => 1,
-        ShowAnswer::Refused(_) => 0,
-    }
-}
-
-fn byte(n: u64) -> u8 {
-    (n % 256) as u8
 }
 
 fn name_of(i: u64, last: u8) -> [u8; 3] {
-    [byte(97 + i / 8 % 20), 46, last]
+    [b'a' + (i / 8 % 20) as u8, b'.', last]
+}
+
+fn nonce_of(i: u64) -> [u8; 16] {
+    let mut nonce = [0; 16];
+    nonce[..3].copy_from_slice(&i.to_le_bytes()[..3]);
+    nonce[3] = 1;
+    nonce
+}
+
+fn find(v: Volume, name: &[u8]) -> bool {
+    requests::find(v, IMAGES, name).is_ok()
+}
+
+fn show(v: Volume, n: u64) -> bool {
+    requests::show(v, EntryNumber(n), &mut [0; 255]).is_ok()
 }
 
 // Request i where i is odd: find and show, which leave the volume.
-fn look(v: Volume, i: u64) -> u64 {
-    let k = i % 8;
-    if k == 1 {
-        return find(v, &name_of(i, 98));
+fn look(v: Volume, i: u64) -> bool {
+    match i % 8 {
+        1 => find(v, &name_of(i, b'b')),
+        3 => show(v, 1 + i / 8 % 20),
+        5 => find(v, &name_of(i, b'c')),
+        _ => show(v, 1 + i / 16 % 20),
     }
-    if k == 3 {
-        return show(v, EntryNumber(1 + i / 8 % 20));
-    }
-    if k == 5 {
-        return find(v, &name_of(i, 99));
-    }
-    show(v, EntryNumber(1 + i / 16 % 20))
 }
 
 // Request i where i is even: create, rename, exchange and remove.
 fn change(v: Volume, i: u64) -> Turn {
     let one = EntryNumber(1 + i / 8 % 20);
     let two = EntryNumber(1 + i / 16 % 20);
-    let k = i % 8;
-    if k == 0 {
-        let nonce = [
-            byte(i),
-            byte(i / 256),
-            byte(i / 65536),
-            1,
-            0,
-            0,
-            0,
-            0,
-            0,
-            0,
-            0,
-            0,
-            0,
-            0,
-            0,
-            0,
-        ];
-        return create(v, &name_of(i, 98), nonce);
+    match i % 8 {
+        0 => requests::create(
+            v,
+            IMAGES,
+            u64::from(REGULAR),
+            &name_of(i, b'b'),
+            nonce_of(i),
+        )
+        .into(),
+        2 => requests::rename(v, one, IMAGES, &name_of(i, b'c')).into(),
+        4 => requests::exchange(v, one, two).into(),
+        _ => requests::remove(v, two).into(),
     }
-    if k == 2 {
-        return of_changed(requests::rename(v, one, InodeNumber(1), &name_of(i, 99)));
-    }
-    if k == 4 {
-        return of_changed(requests::exchange(v, one, two));
-    }
-    of_changed(requests::remove(v, two))
 }
 
-// An encrypted directory, inode 1, whose key is held.
+// The encrypted directory and nothing else, with its key held.
 fn begin() -> Volume {
-    let descriptor = [1u8; 8];
-    let key = [7u8; 64];
-    let keyed = requests::add_key(requests::fresh(), descriptor, &key);
-    let v = keyed.volume;
-    let made = requests::create(v, InodeNumber(0), 1, b"images", [0u8; 16]);
-    let w = made.volume;
-    let policy = [0, 1, 4, 3, 1, 1, 1, 1, 1, 1, 1, 1];
-    let set = requests::set_policy(w, InodeNumber(1), &policy, [9u8; 16]);
-    set.volume
-}
-
-fn counted(done: u64, more: u64) -> u64 {
-    if done < 100000 {
-        return done + more % 2;
+    let descriptor = [1; 8];
+    let policy: [u8; 12] = Policy {
+        version: 0,
+        contents: 1,
+        names: 4,
+        flags: 3,
+        descriptor,
     }
-    done
+    .into();
+    let v = requests::add_key(requests::fresh(), descriptor, &[7; 64]).volume;
+    let v = requests::create(v, InodeNumber(0), u64::from(DIRECTORY), b"images", [0; 16]).volume;
+    requests::set_policy(v, IMAGES, &policy, [9; 16]).volume
 }
 
 fn main(rt: HostRuntime) {
     let mut v = begin();
     let mut done: u64 = 0;
-    for i in 0..50000u64 {
-        let t = change(v, 2 * i);
-        v = t.volume;
-        done = counted(done, t.done);
-        done = counted(done, look(v, 2 * i + 1));
+    for i in 0..50000 {
+        let turn = change(v, 2 * i);
+        v = turn.volume;
+        done += u64::from(turn.done) + u64::from(look(v, 2 * i + 1));
     }
     let _ = println!(rt; "{done} done of 100000");
 }

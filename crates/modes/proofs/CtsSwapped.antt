@@ -1,11 +1,11 @@
 -- Ciphertext stealing is CBC of the text filled up with zeros, whose last two blocks are exchanged, cut to the text's length: a block is read past the end of the text
 -- as zeros, so CBC reads the same blocks. Assumes nothing.
-use mathlib.Core.Path.{◌≡◌, refl, sym, ap, ap₂, ◌∙◌}
+use mathlib.Core.Path.{◌≡◌, sym, ap, ap₂, ◌∙◌}
 use mathlib.Core.List.{List, ◌++◌, append_assoc}
-use Prim.Native.Nat.{ℕ, zero, suc, ◌+◌, ◌-◌, ◌*◌, ◌/◌, ◌<◌}
-use native.Mathlib.Nat.{mul-suc}
+use Prim.Native.Nat.{ℕ, suc, ◌+◌, ◌-◌, ◌*◌, ◌/◌, ◌<◌}
+use native.Mathlib.Nat.{mul-suc, add-zero}
 use native.Mathlib.Omega.{arith}
-use lib.ListN.{length, take, drop, length-append}
+use lib.ListN.{length, take, drop, length-append, length-drop}
 use lib.Seq.{take_at, drop_at, take-append-add}
 use Rattle.lists.specs.Bytes.{zeros}
 use Rattle.aes.specs.States.{state_at}
@@ -14,24 +14,12 @@ use Rattle.aes.specs.declared.State.{State}
 use Rattle.aes.proofs.Appended.{length_state}
 use Rattle.modes.specs.Walk.{carried, walked}
 use Rattle.modes.specs.Cbc.{cbc_step, cbc_next}
-use Rattle.modes.specs.Cts.{last_two, cs3_encrypt, cbc_cs3_encrypt}
+use Rattle.modes.specs.Cts.{last_two, long, cs3, cbc_cs3_encrypt}
 use Rattle.modes.specs.Meanings.{last_two_swapped, cbc_padded}
 use Rattle.modes.proofs.BlockLoop.{length_walked}
-use Rattle.modes.proofs.ListBlocks.{padded_at}
-use Rattle.modes.proofs.CtsSteal.{long, cs3, cs3_long}
-
--- ---- a walk over another list of the same blocks
-
-module _ (step : State → State → State) (next : State → State → State → State) (l P : List ℕ) (c : State) (same : (j : ℕ) → state_at P j ≡ state_at l j) where
-  carried_same : (i : ℕ) → carried step next P c i ≡ carried step next l c i
-  unfolding carried
-  carried_same zero = refl
-  carried_same (suc i) = cc (carried_same i, same (16 * i))
-
-  walked_same : (i : ℕ) → walked step next P c i ≡ walked step next l c i
-  unfolding walked
-  walked_same zero = refl
-  walked_same (suc i) = cc (walked_same i, carried_same i, same (16 * i))
+use Rattle.modes.proofs.ListBlocks.{padded_at, state_rest}
+use Rattle.modes.proofs.RoundTrip.{walked_same}
+use Rattle.modes.proofs.CtsSteal.{cs3_long}
 
 -- ---- the last two parts of a list are exchanged
 
@@ -62,9 +50,13 @@ module _ (w : List ℕ) (nr : ℕ) (iv : State) (l : List ℕ) (m : ℕ) where
   abbrev b : State
   b = cbc_step w nr a (state_at l (16 * m + 16))
 
-  stolen_is : cs3_encrypt w nr iv l m ≡ A ++ (state_bytes b ++ take (length l - (16 * m + 16)) (state_bytes a))
-  unfolding cs3_encrypt last_two
-  stolen_is = refl
+  stolen_is : long (cbc_step w nr) cbc_next (last_two w nr) iv l m ≡ A ++ (state_bytes b ++ take (length l - (16 * m + 16)) (state_bytes a))
+  unfolding long last_two
+  stolen_is =
+      let p : state_at (drop (16 * m) l) 0 ≡ state_at l (16 * m) = state_rest l (16 * m) 0 ∙ ap (state_at l) (add-zero (16 * m)) in
+      let q : state_at (drop (16 * m) l) 16 ≡ state_at l (16 * m + 16) = state_rest l (16 * m) 16 in
+      let d : length (drop (16 * m) l) - 16 ≡ length l - (16 * m + 16) = simp length-drop (omega arith) in
+      cc
 
   cbc_is : walked (cbc_step w nr) cbc_next l iv (suc (suc m)) ≡ (A ++ state_bytes a) ++ state_bytes b
   unfolding walked carried
@@ -75,9 +67,9 @@ module _ (w : List ℕ) (nr : ℕ) (iv : State) (l : List ℕ) (m : ℕ) where
   padded_is : (n : ℕ) → n ≡ suc (suc m) → cbc_padded w nr iv l n ≡ (A ++ state_bytes a) ++ state_bytes b
   unfolding zeros
   padded_is n h =
-      walked_same (cbc_step w nr) cbc_next l (l ++ zeros (16 * n - length l)) iv (padded_at l (16 * n - length l)) n ∙ ap (walked (cbc_step w nr) cbc_next l iv) h ∙ cbc_is
+      walked_same (cbc_step w nr) cbc_next l (l ++ zeros (16 * n - length l)) iv n (λ i k. padded_at l (16 * n - length l) (16 * i)) n (omega arith) ∙ ap (walked (cbc_step w nr) cbc_next l iv) h ∙ cbc_is
 
-  stolen_swapped : (n : ℕ) → n ≡ suc (suc m) → 16 * m + 16 < length l → cs3_encrypt w nr iv l m ≡ take (length l) (last_two_swapped (cbc_padded w nr iv l n) n)
+  stolen_swapped : (n : ℕ) → n ≡ suc (suc m) → 16 * m + 16 < length l → long (cbc_step w nr) cbc_next (last_two w nr) iv l m ≡ take (length l) (last_two_swapped (cbc_padded w nr iv l n) n)
   stolen_swapped n h lo =
       let i : 16 * (n - 2) ≡ 16 * m = omega arith in
       let j : 16 * (n - 1) ≡ 16 * m + 16 = omega arith in
@@ -91,6 +83,6 @@ module _ (w : List ℕ) (nr : ℕ) (iv : State) (l : List ℕ) (m : ℕ) where
 
 pub stolen : (w : List ℕ) (nr : ℕ) (iv : State) (l : List ℕ) → 16 < length l
     → cbc_cs3_encrypt w nr iv l ≡ take (length l) (last_two_swapped (cbc_padded w nr iv l ((length l + 15) / 16)) ((length l + 15) / 16))
-unfolding cbc_cs3_encrypt cs3_encrypt cs3 long
+unfolding cs3 long
 stolen w nr iv l h =
     cs3_long (cbc_step w nr) cbc_next (last_two w nr) iv l h ∙ stolen_swapped w nr iv l ((length l - 17) / 16) ((length l + 15) / 16) (omega arith) (omega arith)

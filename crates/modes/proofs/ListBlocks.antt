@@ -2,6 +2,7 @@
 use mathlib.Core.Path.{◌≡◌, refl, sym, ap, ap₂, ◌∙◌, subst}
 use mathlib.Core.List.{List, [], ◌∷◌, ◌++◌, zip_with, append_assoc}
 use Prim.Native.Nat.{ℕ, zero, suc, ◌+◌, ◌-◌, ◌≤◌, ◌<◌}
+use native.Mathlib.Nat.{add_assoc}
 use native.Mathlib.Decide.{dec_lt}
 use native.Mathlib.Numerals.{add-one, add-two, add-three}
 use native.Mathlib.Omega.{arith}
@@ -54,6 +55,14 @@ take_more l k h = take-add k 16 l ∙ ap (λ (x : List ℕ). take k l ++ x) (tak
 pub state_front : (A D : List ℕ) (j : ℕ) → j + 16 ≤ length A → state_at (A ++ D) j ≡ state_at A j
 unfolding state_at
 state_front A D j h = cc (front A D j (omega arith), front A D (j + 4) (omega arith), front A D (j + 8) (omega arith), front A D (j + 12) (omega arith))
+
+-- a block of the first part of a list, and one of the rest
+pub state_part : (l : List ℕ) (n j : ℕ) → j + 16 ≤ length (take n l) → state_at (take n l) j ≡ state_at l j
+state_part l n j h = sym (state_front (take n l) (drop n l) j h) ∙ ap (λ (x : List ℕ). state_at x j) (take-append-drop n l)
+
+pub state_rest : (l : List ℕ) (n j : ℕ) → state_at (drop n l) j ≡ state_at l (n + j)
+unfolding state_at word_at
+state_rest l n j = simp (get_or-drop, add_assoc)
 
 -- a block after a list
 module _ (A xs : List ℕ) (n : ℕ) (e : length A ≡ n) where
@@ -119,7 +128,7 @@ word_filled l Z n d e k j h =
     word_eq (byte_filled l Z n d e k j h) (byte_filled l Z n d e (k + 1) (j + 1) (omega arith)) (byte_filled l Z n d e (k + 2) (j + 2) (omega arith))
     (byte_filled l Z n d e (k + 3) (j + 3) (omega arith))
 
-filled_at : (l : List ℕ) (z : State) (n d : ℕ) → length l ≡ n + d → filled l n z ≡ state_at (l ++ drop d (state_bytes z)) n
+pub filled_at : (l : List ℕ) (z : State) (n d : ℕ) → length l ≡ n + d → filled l n z ≡ state_at (l ++ drop d (state_bytes z)) n
 unfolding filled state_at word_at state_bytes
 filled_at l z n d e =
     let word = word_filled l (state_bytes z) n d e in

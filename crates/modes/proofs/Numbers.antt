@@ -1,12 +1,16 @@
 -- The blocks that modes start from: that of zeros is bytes; a data unit's number as a block has its bytes, the lowest first, and eight zeros, and the number is found again
 -- in them. Assumes nothing.
-use mathlib.Core.Path.{◌≡◌, refl, sym, ap}
+use mathlib.Core.Path.{◌≡◌, refl, sym, ap, ◌∙◌}
 use Prim.Native.Nat.{ℕ, zero, suc, ◌+◌, ◌*◌, ◌/◌, ◌%◌, ◌^◌, ◌<◌}
 use native.Mathlib.Nat.{div-div-eq-div-mul}
 use native.Mathlib.Omega.{arith}
 use lib.Dec.{lit<}
 use lib.ListN.{drop, get_or}
 use Rattle.lists.specs.Bytes.{zeros}
+use mathlib.Core.List.{List, ◌++◌}
+use Rattle.std.specs.Int.{w64, to_le_bytes}
+use Rattle.aes.specs.Words.{word_at}
+use Rattle.aes.specs.States.{state_at}
 use Rattle.aes.specs.Bytes.{state_bytes}
 use Rattle.aes.specs.declared.Word.{Word}
 use Rattle.aes.specs.declared.State.{State}
@@ -29,6 +33,11 @@ number_byte n (suc (suc (suc (suc (suc zero))))) h = upper n 256
 number_byte n (suc (suc (suc (suc (suc (suc zero)))))) h = upper n 65536
 number_byte n (suc (suc (suc (suc (suc (suc (suc zero))))))) h = upper n 16777216
 number_byte n (suc (suc (suc (suc (suc (suc (suc (suc i)))))))) h = absurd (omega arith)
+
+-- read from the number's bytes and eight zeros
+pub number_read : (n : ℕ) (b l : List ℕ) (r : State) → b ≡ to_le_bytes w64 n → l ≡ b → r ≡ state_at (l ++ zeros 8) 0 → r ≡ number_block n
+unfolding state_at word_at number_block low_word zeros
+number_read n b l r e f g = g ∙ ap (λ (x : List ℕ). state_at (x ++ zeros 8) 0) (f ∙ e) ∙ cc (upper n 256, upper n 65536, upper n 16777216)
 
 pub number_zeros : (n : ℕ) → drop 8 (state_bytes (number_block n)) ≡ zeros 8
 unfolding state_bytes number_block zeros

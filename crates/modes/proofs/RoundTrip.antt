@@ -1,4 +1,4 @@
--- A walk over the blocks of a list is undone by a walk of the inverse steps, for any mode. Assumes nothing.
+-- A walk over the blocks of a list reads nothing else, and is undone by a walk of the inverse steps, for any mode. Assumes nothing.
 use mathlib.Core.Path.{◌≡◌, refl, sym, ap, ap₂, ◌∙◌}
 use mathlib.Core.List.{List, ◌++◌}
 use Prim.Native.Nat.{ℕ, zero, suc, ◌+◌, ◌*◌, ◌≤◌, ◌<◌}
@@ -13,6 +13,20 @@ use Rattle.aes.specs.declared.State.{State}
 use Rattle.modes.specs.Walk.{carried, walked}
 use Rattle.modes.proofs.BlockLoop.{length_walked}
 use Rattle.modes.proofs.ListBlocks.{take_more, state_front, state_after}
+
+-- ---- a walk over another list of the same n blocks
+
+module _ (step : State → State → State) (next : State → State → State → State) (l P : List ℕ) (c : State) (n : ℕ)
+    (same : (i : ℕ) → i < n → state_at P (16 * i) ≡ state_at l (16 * i)) where
+  pub carried_same : (i : ℕ) → i ≤ n → carried step next P c i ≡ carried step next l c i
+  unfolding carried
+  carried_same zero h = refl
+  carried_same (suc i) h = cc (carried_same i (omega arith), same i h)
+
+  pub walked_same : (i : ℕ) → i ≤ n → walked step next P c i ≡ walked step next l c i
+  unfolding walked
+  walked_same zero h = refl
+  walked_same (suc i) h = cc (walked_same i (omega arith), carried_same i (omega arith), same i h)
 
 -- ---- the walk back
 

@@ -14,7 +14,7 @@ use Rattle.aes.proofs.ByteStates.{ByteWord, ByteState, add_round_key_bytes}
 use Rattle.aes.proofs.Inverse.{added_twice, inv_cipher_cipher, cipher_inv_cipher}
 use Rattle.aes.proofs.ScheduleBytes.{state_at_bytes}
 use Rattle.modes.specs.Walk.{carried, walked}
-use Rattle.modes.specs.Xts.{block_enc, block_dec, next_tweak, times_alpha, shifted_word, xts_aes_enc, xts_aes_dec}
+use Rattle.modes.specs.Xts.{tweaked, xts_aes, block_enc, block_dec, next_tweak, times_alpha, shifted_word, xts_aes_enc, xts_aes_dec}
 use Rattle.modes.proofs.BlockLoop.{length_walked}
 use Rattle.modes.proofs.RoundTrip.{unwalked}
 
@@ -50,9 +50,6 @@ times_alpha_bytes t h =
 
 -- ---- a function of states between two additions of the tweak: both directions are of this kind
 
-unfoldable tweaked : (State → State) → State → State → State
-tweaked f t p = add_round_key (f (add_round_key p t)) t
-
 tweak_bytes : (step : State → State → State) (l : List ℕ) (t : State) → ByteState t → (i : ℕ) → ByteState (carried step next_tweak l t i)
 unfolding carried
 tweak_bytes step l t h zero = h
@@ -75,17 +72,17 @@ module _ (f g : State → State) (undo : (s : State) → ByteState s → g (f s)
 
 module _ (w : List ℕ) (key_bytes_lem : ByteList w) (nr : ℕ) (t : State) (ht : ByteState t) (m : ℕ) (l : List ℕ) (bytes : ByteList l) where
   pub xts_dec_enc : length l ≡ 16 * m → xts_aes_dec w nr t m (xts_aes_enc w nr t m l) ≡ l
-  unfolding xts_aes_dec xts_aes_enc block_enc block_dec tweaked
+  unfolding xts_aes
   xts_dec_enc = tweaked_back (cipher w nr) (inv_cipher w nr) (inv_cipher_cipher w key_bytes_lem nr) t ht m l bytes
 
   pub xts_enc_dec : length l ≡ 16 * m → xts_aes_enc w nr t m (xts_aes_dec w nr t m l) ≡ l
-  unfolding xts_aes_dec xts_aes_enc block_enc block_dec tweaked
+  unfolding xts_aes
   xts_enc_dec = tweaked_back (inv_cipher w nr) (cipher w nr) (cipher_inv_cipher w key_bytes_lem nr) t ht m l bytes
 
 pub length_xts_aes_enc : (w : List ℕ) (n : ℕ) (t : State) (m : ℕ) (l : List ℕ) → length (xts_aes_enc w n t m l) ≡ 16 * m
-unfolding xts_aes_enc
+unfolding xts_aes
 length_xts_aes_enc w n t m l = length_walked (block_enc w n) next_tweak l t m
 
 pub length_xts_aes_dec : (w : List ℕ) (n : ℕ) (t : State) (m : ℕ) (l : List ℕ) → length (xts_aes_dec w n t m l) ≡ 16 * m
-unfolding xts_aes_dec
+unfolding xts_aes
 length_xts_aes_dec w n t m l = length_walked (block_dec w n) next_tweak l t m

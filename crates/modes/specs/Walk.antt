@@ -20,3 +20,7 @@ module _ (step : State → State → State) (next : State → State → State �
   pub record Going (i : ℕ) (buffer : List ℕ) (t : State) : Type 0 where
     pub list : buffer ≡ walked i ++ drop (16 * i) l
     pub carry : t ≡ carried i
+
+-- code that makes, of the state c that is carried to a block and the block p, what is stored and what is carried on
+abbrev pub Steps : (State → State → (State × State) → Type 0) → (State → State → State) → (State → State → State → State) → Type 0
+Steps gives step next = (c p o t : State) → gives c p (o, t) → (o ≡ step c p) × (t ≡ next c p o)

@@ -32,18 +32,24 @@ times_alpha t =
 abbrev pub next_tweak : State → State → State → State
 next_tweak t p o = times_alpha t
 
--- ---- 5.3.1 XTS-AES-blockEnc and 5.4.1 XTS-AES-blockDec: the tweak t is added before and after the cipher
+-- ---- 5.3.1 XTS-AES-blockEnc and 5.4.1 XTS-AES-blockDec: the tweak t is added before and after the cipher, f
 
-unfoldable pub block_enc : List ℕ → ℕ → State → State → State
-block_enc w nr t p = add_round_key (cipher w nr (add_round_key p t)) t
+unfoldable pub tweaked : (State → State) → State → State → State
+tweaked f t p = add_round_key (f (add_round_key p t)) t
 
-unfoldable pub block_dec : List ℕ → ℕ → State → State → State
-block_dec w nr t c = add_round_key (inv_cipher w nr (add_round_key c t)) t
+abbrev pub block_enc : List ℕ → ℕ → State → State → State
+block_enc w nr = tweaked (cipher w nr)
+
+abbrev pub block_dec : List ℕ → ℕ → State → State → State
+block_dec w nr = tweaked (inv_cipher w nr)
 
 -- ---- 5.3.2 XTS-AES-Enc and 5.4.2 XTS-AES-Dec of m whole blocks, the first under the tweak t
 
-unfoldable pub xts_aes_enc : List ℕ → ℕ → State → ℕ → List ℕ → List ℕ
-xts_aes_enc w nr t m l = walked (block_enc w nr) next_tweak l t m
+unfoldable pub xts_aes : (State → State) → State → ℕ → List ℕ → List ℕ
+xts_aes f t m l = walked (tweaked f) next_tweak l t m
 
-unfoldable pub xts_aes_dec : List ℕ → ℕ → State → ℕ → List ℕ → List ℕ
-xts_aes_dec w nr t m l = walked (block_dec w nr) next_tweak l t m
+abbrev pub xts_aes_enc : List ℕ → ℕ → State → ℕ → List ℕ → List ℕ
+xts_aes_enc w nr = xts_aes (cipher w nr)
+
+abbrev pub xts_aes_dec : List ℕ → ℕ → State → ℕ → List ℕ → List ℕ
+xts_aes_dec w nr = xts_aes (inv_cipher w nr)

@@ -1,61 +1,39 @@
 // CBC of whole blocks, NIST SP 800-38A section 6.2.
-ghost use Rattle.std.specs.Prelude.{◌≡◌, ◌*◌, ◌≤◌, length};
-ghost use Rattle.aes.specs.Cipher.{Keyed};
-ghost use Rattle.field.specs.SBox.{s_box_table, inv_s_box_table};
+#![tactic(auto, unfolding(crate::specs::Cbc::cbc_step, crate::specs::Cbc::cbc_inv_step))]
+
+ghost use Rattle.std.specs.Prelude.{◌≡◌, ◌/◌, length};
 ghost use Rattle.modes.specs.Walk.{Going};
 ghost use Rattle.modes.specs.Cbc.{cbc_step, cbc_next, cbc_inv_step, cbc_inv_next};
 
-use aes::{State, cipher, states};
+use crate::walk::walk;
+use aes::{KeySchedule, State};
 
-// One block, after the ciphertext block c.
-pub(crate) fn step(sbox: &[u8; 256], w: &[u8], nr: usize, c: State, p: State) -> State
-    requires { Keyed s_box_table sbox.now w.now nr }
-    ensures { result ≡ cbc_step w.now nr c p }
+// The block p, after the ciphertext block c.
+pub(crate) fn step(schedule: &KeySchedule, c: State, p: State) -> State
+    ensures { result ≡ cbc_step schedule.now.bytes schedule.now.rounds c p }
 {
-    cipher::cipher(sbox, w, nr, states::add_round_key(p, c))
+    schedule.encipher(p ^ c)
 }
 
-pub(crate) fn inv_step(inv_sbox: &[u8; 256], w: &[u8], nr: usize, c: State, o: State) -> State
-    requires { Keyed inv_s_box_table inv_sbox.now w.now nr }
-    ensures { result ≡ cbc_inv_step w.now nr c o }
+pub(crate) fn inv_step(schedule: &KeySchedule, c: State, o: State) -> State
+    ensures { result ≡ cbc_inv_step schedule.now.bytes schedule.now.rounds c o }
 {
-    states::add_round_key(cipher::inv_cipher(inv_sbox, w, nr, o), c)
+    schedule.decipher(o) ^ c
 }
 
-// The first m blocks of a buffer, in place. The answer is the last ciphertext block: the one that a further block comes after.
-pub fn encrypt(sbox: &[u8; 256], w: &[u8], nr: usize, iv: State, l: &mut [u8], m: usize) -> State
-    requires { Keyed s_box_table sbox.now w.now nr × (16 * m ≤ length l.old) }
-    ensures { Going (cbc_step w.now nr) cbc_next l.old iv m l.new result }
+// Two functions, since what is carried on differs.
+// The whole blocks of a buffer, in place. The answer is the last ciphertext block: the one that a further block comes after.
+pub fn encrypt(schedule: &KeySchedule, iv: State, l: &mut [u8]) -> State
+    ensures { Going (cbc_step schedule.now.bytes schedule.now.rounds) cbc_next l.old iv (length l.old / 16) l.new result }
 {
-    let mut t = iv;
-    let mut i: usize = 0;
-    while i < m {
-        t = step(sbox, w, nr, t, states::load(l, 16 * i));
-        states::store(l, 16 * i, t);
-        i += 1;
-    }
-    t
+    walk(l, iv, |c, p| {
+        let o = step(schedule, c, p);
+        (o, o)
+    })
 }
 
-pub fn decrypt(
-    inv_sbox: &[u8; 256],
-    w: &[u8],
-    nr: usize,
-    iv: State,
-    l: &mut [u8],
-    m: usize,
-) -> State
-    requires { Keyed inv_s_box_table inv_sbox.now w.now nr × (16 * m ≤ length l.old) }
-    ensures { Going (cbc_inv_step w.now nr) cbc_inv_next l.old iv m l.new result }
+pub fn decrypt(schedule: &KeySchedule, iv: State, l: &mut [u8]) -> State
+    ensures { Going (cbc_inv_step schedule.now.bytes schedule.now.rounds) cbc_inv_next l.old iv (length l.old / 16) l.new result }
 {
-    let mut t = iv;
-    let mut i: usize = 0;
-    while i < m {
-        let o = states::load(l, 16 * i);
-        let p = inv_step(inv_sbox, w, nr, t, o);
-        states::store(l, 16 * i, p);
-        t = o;
-        i += 1;
-    }
-    t
+    walk(l, iv, |c, o| (inv_step(schedule, c, o), o))
 }

@@ -5,4 +5,5 @@ pub mod blocks;
 pub mod cbc;
 pub mod cts;
 pub mod ecb;
+mod walk;
 pub mod xts;

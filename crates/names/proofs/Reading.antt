@@ -2,24 +2,24 @@
 -- once (`present_sizes`). Assumes nothing.
 use mathlib.Core.Path.{◌≡◌, refl, sym, ap, ap₂, ◌∙◌}
 use mathlib.Core.Bool.{Bool, true, false, cond, not, ◌&&◌}
-use mathlib.Core.List.{[], ◌++◌}
+use mathlib.Core.List.{◌++◌}
 use Prim.Native.Nat.{ℕ, ◌≤◌}
 use native.Mathlib.Omega.{arith}
 use lib.ListN.{length, take, drop, length-append}
-use lib.Seq.{take-take, take_at, drop_at}
+use lib.Seq.{take_at, drop_at}
 use borrow.Author.Tests.{eqb-true}
 use Rattle.lists.specs.Bytes.{Bytes}
 use Rattle.lists.proofs.Tests.{if_true, if_false}
-use Rattle.errno.specs.Refusals.{is_fine}
+use Rattle.errno.specs.Refusals.{is_fine, check_of}
 use Rattle.errno.specs.declared.Errno.TheVariants.{EUCLEAN}
-use Rattle.errno.specs.declared.Checked.TheVariants.{Fine, Refused}
 use Rattle.policy.specs.Policies.{is_master_key_size, name_key_size}
 use Rattle.fscrypt.specs.Cipher.{Cipher}
-use Rattle.fscrypt.specs.Names.{encrypted, padding_check, read_padded, before_nul, name_bytes, packed}
+use Rattle.fscrypt.specs.Keys.{derived_bytes}
+use Rattle.lists.proofs.ByteStrings.{count_take}
+use Rattle.fscrypt.specs.Names.{encrypted, padding_check, read_padded, before_nul, name_bytes, packed, name_in}
 use Rattle.fscrypt.specs.Encoded.{encoded}
 use Rattle.fscrypt.specs.declared.DerivedKey.{DerivedKey}
 use Rattle.fscrypt.specs.declared.Name.{Name}
-use Rattle.fscrypt.specs.declared.NameRead.{NameRead}
 use Rattle.fscrypt.proofs.Padding.{name_bytes_packed}
 use Rattle.volume.specs.Volume.{key_bytes}
 use Rattle.volume.specs.Lookup.{inode_at, key_of, descriptor_of, key_present, entry_named}
@@ -29,8 +29,13 @@ use Rattle.ids.specs.declared.InodeNumber.{InodeNumber}
 use Rattle.volume.specs.declared.Key.{Key}
 use Rattle.volume.specs.declared.Inode.{Inode}
 use Rattle.volume.specs.declared.Volume.{Volume}
+use Rattle.lookup.specs.Found.{entry_found}
+use Rattle.std.specs.declared.option.Option.{Option}
 use Rattle.names.specs.Derived.{DerivedFor}
 use Rattle.names.specs.Shown.{shown_read}
+use Rattle.errno.specs.declared.Errno.{Errno}
+use Rattle.std.specs.declared.result.Result.{Result}
+use Rattle.std.specs.declared.result.Result.TheVariants.{Ok, Err}
 
 -- ---- keys
 
@@ -57,30 +62,25 @@ derived_by_lem C v i k b e s l q = record {
 }
 
 -- the key for names, as code cuts it off a derived key
-module _ (C : Cipher) (v : Volume) (dir : Inode) (d : DerivedKey) (n : ℕ) (h : DerivedFor C v dir d) (e : n ≡ name_key_size dir.context.policy) where
-  pub names_key_fits : n ≤ length d.bytes
-  names_key_fits = omega (arith, h.for_names, h.fits)
+module _ (C : Cipher) (v : Volume) (dir : Inode) (d : DerivedKey) (n : ℕ) (h : DerivedFor C v dir d) (e : n ≡ name_key_size dir.context.policy) (b : Bytes) (k : b ≡ derived_bytes d) where
+  pub names_key_fits : n ≤ length b
+  names_key_fits = omega (arith, h.for_names, count_take d.len d.bytes h.fits, ap length k)
 
-  pub names_key : take n d.bytes ≡ name_key C v dir
+  pub names_key : take n b ≡ name_key C v dir
   unfolding name_key
-  names_key = sym (take-take n d.len d.bytes (omega (arith, h.for_names))) ∙ ap₂ take e h.bytes
+  names_key = ap₂ take e (k ∙ h.bytes)
 
 -- ---- names
 
--- what was read is a packed name, or EUCLEAN and no name
-pub record Plainly (x : NameRead) : Type 0 where
-  pub whole : x ≡ record { checked = cond (not (is_fine x.checked)) (Refused EUCLEAN) Fine; name = packed (name_bytes x.name) }
-
-again : (x : NameRead) → Plainly x → x ≡ record { checked = cond (not (is_fine x.checked)) (Refused EUCLEAN) Fine; name = packed (name_bytes x.name) }
-again x h = h.whole
-
-plainly_read : (C : Cipher) (v : Volume) (dir : Inode) (s : Bytes) → Plainly (read_name C v dir s)
+-- what was read is a packed name, or EUCLEAN
+read_whole : (C : Cipher) (v : Volume) (dir : Inode) (s : Bytes)
+    → read_name C v dir s ≡ cond (not (is_fine (check_of (read_name C v dir s)))) (Err EUCLEAN) (Ok (packed (name_bytes (name_in (read_name C v dir s)))))
 unfolding read_name read_padded
-plainly_read C v dir s = go (is_fine (padding_check dir.context.policy.flags (C.decrypt_name (name_key C v dir) s))) (C.decrypt_name (name_key C v dir) s)
+read_whole C v dir s = go (is_fine (padding_check dir.context.policy.flags (C.decrypt_name (name_key C v dir) s))) (C.decrypt_name (name_key C v dir) s)
   where
-    go : (t : Bool) (b : Bytes) → Plainly (cond {A = NameRead} t (record { checked = Fine; name = packed (before_nul b) }) (record { checked = Refused EUCLEAN; name = packed [] }))
-    go true b = record { whole = ap (λ (x : Bytes). record { checked = Fine; name = packed x }) (sym (name_bytes_packed (before_nul b))) }
-    go false b = record { whole = ap (λ (x : Bytes). record { checked = Refused EUCLEAN; name = packed x }) (sym (name_bytes_packed [])) }
+    go : (t : Bool) (b : Bytes) → let x : Result Name Errno = cond t (Ok (packed (before_nul b))) (Err EUCLEAN) in x ≡ cond (not (is_fine (check_of x))) (Err EUCLEAN) (Ok (packed (name_bytes (name_in x))))
+    go true b = ap (λ (n : Bytes). Ok (packed n)) (sym (name_bytes_packed (before_nul b)))
+    go false b = refl
 
 read_with : (C : Cipher) (v : Volume) (dir : Inode) (s : Bytes) (n : Name) (key : Bytes) → n ≡ packed s → key ≡ name_key C v dir
     → read_padded dir.context.policy.flags (C.decrypt_name key (name_bytes n)) ≡ read_name C v dir s
@@ -100,38 +100,27 @@ module _ (C : Cipher) (v : Volume) (dir : Inode) where
     -- by whether the directory is encrypted and its key is present
     shown_cases : (b k : Bool) → dir.encrypted ≡ b → key_present v dir ≡ k
         → shown_read C v dir e s
-        ≡ record {
-          checked = cond (b && (k && not (is_fine (read_name C v dir s).checked))) (Refused EUCLEAN) Fine;
-          name = packed (cond b (cond k (name_bytes (read_name C v dir s).name) (encoded s e.0)) s);
-        }
+        ≡ cond (b && (k && not (is_fine (check_of (read_name C v dir s))))) (Err EUCLEAN) (Ok (packed (cond b (cond k (name_bytes (name_in (read_name C v dir s))) (encoded s e.0)) s)))
     unfolding shown_read shown_name is_unreadable
     shown_cases b k p q =
-        ap₂ (λ (x y : Bool). record {
-          checked = cond (x && (y && not (is_fine (read_name C v dir s).checked))) (Refused EUCLEAN) Fine;
-          name = packed (cond x (cond y (name_bytes (read_name C v dir s).name) (encoded s e.0)) s);
-        }) p q
+        ap₂ (λ (x y : Bool). cond {A = Result Name Errno} (x && (y && not (is_fine (check_of (read_name C v dir s))))) (Err EUCLEAN) (Ok (packed (cond x (cond y (name_bytes (name_in (read_name C v dir s))) (encoded s e.0)) s)))) p q
 
-    pub shown_plain : (n : Name) → dir.encrypted ≡ false → n ≡ packed s → ◌≡◌ {A = NameRead} (record { checked = Fine; name = n }) (shown_read C v dir e s)
-    shown_plain n p h = ap (λ (x : Name). record { checked = Fine; name = x }) h ∙ sym (shown_cases false (key_present v dir) p refl)
+    pub shown_plain : (n : Name) → dir.encrypted ≡ false → n ≡ packed s → ◌≡◌ {A = Result Name Errno} (Ok n) (shown_read C v dir e s)
+    shown_plain n p h = ap (λ (x : Name). Ok x) h ∙ sym (shown_cases false (key_present v dir) p refl)
 
     pub shown_encoded : (n r : Name) → dir.encrypted ≡ true → key_present v dir ≡ false → n ≡ packed s → r ≡ packed (encoded (name_bytes n) e.0)
-        → ◌≡◌ {A = NameRead} (record { checked = Fine; name = r }) (shown_read C v dir e s)
+        → ◌≡◌ {A = Result Name Errno} (Ok r) (shown_read C v dir e s)
     shown_encoded n r p q h g =
-        ap (λ (x : Name). record { checked = Fine; name = x })
+        ap (λ (x : Name). Ok x)
         (g ∙ ap (λ (x : Name). packed (encoded (name_bytes x) e.0)) h ∙ ap (λ (b : Bytes). packed (encoded b e.0)) (name_bytes_packed s))
         ∙ sym (shown_cases true false p q)
 
-    pub shown_decrypted : (n : Name) (key : Bytes) (r : NameRead) → dir.encrypted ≡ true → key_present v dir ≡ true → n ≡ packed s → key ≡ name_key C v dir
+    pub shown_decrypted : (n : Name) (key : Bytes) (r : Result Name Errno) → dir.encrypted ≡ true → key_present v dir ≡ true → n ≡ packed s → key ≡ name_key C v dir
         → r ≡ read_padded dir.context.policy.flags (C.decrypt_name key (name_bytes n)) → r ≡ shown_read C v dir e s
-    shown_decrypted n key r p q h d g = g ∙ same ∙ again (read_name C v dir s) reads ∙ sym (shown_cases true true p q)
-      where
-        same : read_padded dir.context.policy.flags (C.decrypt_name key (name_bytes n)) ≡ read_name C v dir s
-        same = read_with C v dir s n key h d
-
-        reads : Plainly (read_name C v dir s)
-        reads = plainly_read C v dir s
+    shown_decrypted n key r p q h d g = g ∙ read_with C v dir s n key h d ∙ read_whole C v dir s ∙ sym (shown_cases true true p q)
 
 -- the search for a name as its directory stores it
-pub entry_by : (C : Cipher) (v : Volume) (p : InodeNumber) (n : Bytes) (dir : Inode) (s : Name) (r : ℕ) → dir ≡ inode_at v p → s ≡ packed (stored C v dir n) → r ≡ entry_named v p (name_bytes s)
-    → r ≡ entry_named v p (stored C v (inode_at v p) n)
-entry_by C v p n dir s r d e h = h ∙ ap (entry_named v p) (ap name_bytes e ∙ name_bytes_packed (stored C v dir n) ∙ ap (λ (x : Inode). stored C v x n) d)
+pub entry_by : (C : Cipher) (v : Volume) (p : InodeNumber) (n : Bytes) (dir : Inode) (s : Name) (r : Option EntryNumber) → dir ≡ inode_at v p → s ≡ packed (stored C v dir n)
+    → r ≡ entry_found (entry_named v p (name_bytes s)) → r ≡ entry_found (entry_named v p (stored C v (inode_at v p) n))
+entry_by C v p n dir s r d e h =
+    h ∙ ap (λ (b : Bytes). entry_found (entry_named v p b)) (ap name_bytes e ∙ name_bytes_packed (stored C v dir n) ∙ ap (λ (x : Inode). stored C v x n) d)

@@ -3,24 +3,23 @@
 use Prim.Native.Nat.{ℕ}
 use native.Mathlib.Omega.{arith}
 use mathlib.Core.Path.{◌≡◌, refl, sym, ap, ◌∙◌, subst}
-use mathlib.Core.Logic.{◌≢◌, ◌↔◌, ◌⊎◌, inl, inr, ⊎_elim}
+use mathlib.Core.Logic.{◌≢◌, ◌↔◌, ◌⊎◌, inl, ⊎_elim}
 use mathlib.Core.Bool.{Bool, true, false, not, false≢true}
+use Rattle.std.specs.Prelude.{Result, Ok, Err}
 use lib.ListN.{length, take, drop, get_or, length-drop}
 use lib.Seq.{take_all}
 use Rattle.lists.specs.Bytes.{Bytes, zeros}
 use Rattle.lists.proofs.ByteMeanings.{same_means}
 use Rattle.lists.proofs.Searches.{equal, at_most, both}
-use Rattle.errno.specs.Refusals.{◌⇒◌, ◌>>◌}
+use Rattle.errno.specs.declared.Errno.{Errno}
+use Rattle.errno.specs.Refusals.{Checked, fine, refuse, ◌⇒◌, ◌>>◌, check_of}
 use Rattle.errno.specs.declared.Errno.TheVariants.{EINVAL}
-use Rattle.errno.specs.declared.Checked.{Checked}
-use Rattle.errno.specs.declared.Checked.TheVariants.{Fine, Refused}
-use Rattle.policy.specs.Policies.{is_pair, is_valid, same_policy, is_master_key_size, name_key_size, policy_bytes, policy_at, context_at, policy_check, context_check, taken, refused, answered, policy_answer, context_answer, read_policy, read_context, ReadsPolicy, ReadsContext}
+use Rattle.errno.proofs.Chains.{one_refusal}
+use Rattle.policy.specs.Policies.{is_pair, is_valid, same_policy, is_master_key_size, name_key_size, policy_bytes, policy_at, context_at, policy_check, context_check, taken, refused, answered, policy_answer, context_answer, read_policy, read_context, policy_in, context_in, ReadsPolicy, ReadsContext}
 use Rattle.policy.specs.Meanings.{ValidPolicy, MasterKeySize, PolicyIn, ContextIn, PolicyMeanings}
 use Rattle.policy.specs.declared.Policy.{Policy}
 use Rattle.policy.specs.declared.Context.{Context}
-use Rattle.policy.specs.declared.PolicyRead.{PolicyRead}
-use Rattle.policy.specs.declared.ContextRead.{ContextRead}
-use Rattle.policy.proofs.Codec.{policy_eq}
+use Rattle.policy.proofs.Codec.{policy_eq, context_eq}
 
 -- ---- two policies
 
@@ -36,9 +35,6 @@ same_policy_lem a b =
           fields.1
           (ap (λ (p : Policy). p.version) e, (ap (λ (p : Policy). p.contents) e, (ap (λ (p : Policy). p.names) e, (ap (λ (p : Policy). p.flags) e, ap (λ (p : Policy). p.descriptor) e)))),
     )
-
-context_eq : {p p' : Policy} {x x' : Bytes} → p ≡ p' → x ≡ x' → ◌≡◌ {A = Context} (record { policy = p; nonce = x }) (record { policy = p'; nonce = x' })
-context_eq p x = cc
 
 -- ---- valid policies
 
@@ -68,26 +64,20 @@ name_key_size_lem p = refl
 
 -- a check that refuses with EINVAL or not at all, and passes exactly where the value is a good one, the only one
 module _ {A : Type 0} (Good : A → Type 0) (value : A) (unique : (x : A) → Good x → x ≡ value) where
-  taken_is : (c : Checked) → ((c ≡ Fine) ↔ Good value) → (x : A) → (answered c value ≡ taken x) ↔ Good x
-  taken_is Fine f x = (λ h. subst Good (cc) (f.0 refl), λ g. ap taken (sym (unique x g)))
-  taken_is (Refused e) f x =
+  taken_is : (c : Checked) → ((c ≡ fine) ↔ Good value) → (x : A) → (answered c value ≡ taken x) ↔ Good x
+  taken_is (Ok _) f x = (λ h. subst Good (cc) (f.0 refl), λ g. ap taken (sym (unique x g)))
+  taken_is (Err e) f x =
       (λ h. absurd (let z : ◌≡◌ {A = ℕ} 0 1 = cc in omega arith), λ g. absurd (let q = f.1 (subst Good (unique x g) g) in let z : ◌≡◌ {A = ℕ} 0 1 = cc in omega arith))
 
-  refused_is : (c : Checked) → ((c ≡ Fine) ↔ Good value) → (c ≡ Fine) ⊎ (c ≡ Refused EINVAL)
+  refused_is : (c : Checked) → ((c ≡ fine) ↔ Good value) → (c ≡ fine) ⊎ (c ≡ refuse EINVAL)
       → (n : ℕ) → (answered c value ≡ refused n) ↔ ((n ≡ 22) × ((x : A) → Good x → ⊥))
-  refused_is Fine f o n =
+  refused_is (Ok _) f o n =
       (λ h. absurd (let z : ◌≡◌ {A = ℕ} 0 1 = cc in omega arith), λ p. absurd (p.1 value (f.0 refl)))
-  refused_is (Refused e) f o n =
+  refused_is (Err e) f o n =
       let k : e ≡ EINVAL = ⊎_elim (λ q. absurd (let z : ◌≡◌ {A = ℕ} 0 1 = cc in omega arith)) (λ q. cc) o in
       (λ h. (cc, λ x g. let q = f.1 (subst Good (unique x g) g) in let z : ◌≡◌ {A = ℕ} 0 1 = cc in omega arith), λ p. let q : n ≡ 22 = p.0 in cc)
 
--- a line of a table that refuses with EINVAL, or passes to the next
-line : (t : Bool) (next : Checked) → (next ≡ Fine) ⊎ (next ≡ Refused EINVAL) → (◌>>◌ (t ⇒ EINVAL) next ≡ Fine) ⊎ (◌>>◌ (t ⇒ EINVAL) next ≡ Refused EINVAL)
-unfolding ◌>>◌ ◌⇒◌
-line true next o = inr refl
-line false next o = o
-
-passes : {P : Type 0} (t : Bool) (next : Checked) → ((t ≡ true) ↔ P) → (◌>>◌ (not t ⇒ EINVAL) next ≡ Fine) ↔ (P × (next ≡ Fine))
+passes : {P : Type 0} (t : Bool) (next : Checked) → ((t ≡ true) ↔ P) → (◌>>◌ (not t ⇒ EINVAL) next ≡ fine) ↔ (P × (next ≡ fine))
 unfolding ◌>>◌ ◌⇒◌
 passes true next f = (λ h. (f.0 refl, h), λ p. p.1)
 passes false next f = (λ h. absurd (let z : ◌≡◌ {A = ℕ} 0 1 = cc in omega arith), λ p. absurd (false≢true (f.1 p.0)))
@@ -106,11 +96,11 @@ module _ (b : Bytes) where
       let l : length b ≡ 12 = w.size in
       policy_eq w.version w.contents w.names w.flags (w.descriptor ∙ sym (take_all 8 (drop 4 b) (simp length-drop (omega arith))))
 
-  policy_fine : (policy_check b ≡ Fine) ↔ GoodPolicy policy
+  policy_fine : (policy_check b ≡ fine) ↔ GoodPolicy policy
   unfolding policy_check policy_at
   policy_fine =
       let lines = passes _ _ (equal (length b) 12) in
-      let last = passes (is_valid policy) Fine (valid policy) in (
+      let last = passes (is_valid policy) fine (valid policy) in (
         λ h.
             let l : length b ≡ 12 = (lines.0 h).0 in (
               record { size = l; version = refl; contents = refl; names = refl; flags = refl; descriptor = take_all 8 (drop 4 b) (simp length-drop (omega arith)) },
@@ -119,9 +109,9 @@ module _ (b : Bytes) where
         λ g. lines.1 (g.0.size, last.1 (g.1, refl)),
       )
 
-  policy_either : (policy_check b ≡ Fine) ⊎ (policy_check b ≡ Refused EINVAL)
+  policy_either : (policy_check b ≡ fine) ⊎ (policy_check b ≡ refuse EINVAL)
   unfolding policy_check
-  policy_either = line _ _ (line _ _ (inl refl))
+  policy_either = one_refusal _ _ _ (one_refusal _ _ _ (inl refl))
 
   pub policy_taken_lem : (p : Policy) → (policy_answer b ≡ taken p) ↔ GoodPolicy p
   unfolding policy_answer
@@ -146,12 +136,12 @@ module _ (b : Bytes) where
       let x : c.nonce ≡ take 16 (drop 12 b) = w.nonce ∙ sym (take_all 16 (drop 12 b) (simp length-drop (omega arith))) in
       context_eq p x
 
-  context_fine : (context_check b ≡ Fine) ↔ GoodContext (context_at b)
+  context_fine : (context_check b ≡ fine) ↔ GoodContext (context_at b)
   unfolding context_check context_at policy_at
   context_fine =
       let size = passes _ _ (equal (length b) 28) in
       let format = passes _ _ (equal (get_or b 0 0) 1) in
-      let last = passes (is_valid (policy_at 0 b)) Fine (valid (policy_at 0 b)) in (
+      let last = passes (is_valid (policy_at 0 b)) fine (valid (policy_at 0 b)) in (
         λ h.
             let l : length b ≡ 28 = (size.0 h).0 in
             let k = format.0 (size.0 h).1 in (
@@ -170,9 +160,9 @@ module _ (b : Bytes) where
         λ g. size.1 (g.0.size, format.1 (g.0.format, last.1 (g.1, refl))),
       )
 
-  context_either : (context_check b ≡ Fine) ⊎ (context_check b ≡ Refused EINVAL)
+  context_either : (context_check b ≡ fine) ⊎ (context_check b ≡ refuse EINVAL)
   unfolding context_check
-  context_either = line _ _ (line _ _ (line _ _ (inl refl)))
+  context_either = one_refusal _ _ _ (one_refusal _ _ _ (one_refusal _ _ _ (inl refl)))
 
   context_taken_lem : (c : Context) → (context_answer b ≡ taken c) ↔ GoodContext c
   unfolding context_answer
@@ -187,18 +177,18 @@ module _ (b : Bytes) where
 -- ---- what the functions give back stands for the answer
 
 module _ (b : Bytes) where
-  pub reads_policy : (r : PolicyRead) → r ≡ read_policy b → ReadsPolicy b r
+  pub reads_policy : (r : Result Policy Errno) → r ≡ read_policy b → ReadsPolicy b r
   unfolding policy_answer read_policy
   reads_policy r e = record {
     read = e;
-    answer = ap (λ (x : PolicyRead). answered x.checked x.policy) e ∙ ⊎_elim (λ h. rw h) (λ h. rw h) (policy_either b);
+    answer = ap (λ (x : Result Policy Errno). answered (check_of x) (policy_in x)) e ∙ ⊎_elim (λ h. rw h) (λ h. rw h) (policy_either b);
   }
 
-  pub reads_context : (r : ContextRead) → r ≡ read_context b → ReadsContext b r
+  pub reads_context : (r : Result Context Errno) → r ≡ read_context b → ReadsContext b r
   unfolding context_answer read_context
   reads_context r e = record {
     read = e;
-    answer = ap (λ (x : ContextRead). answered x.checked x.context) e ∙ ⊎_elim (λ h. rw h) (λ h. rw h) (context_either b);
+    answer = ap (λ (x : Result Context Errno). answered (check_of x) (context_in x)) e ∙ ⊎_elim (λ h. rw h) (λ h. rw h) (context_either b);
   }
 
 -- ---- all of them

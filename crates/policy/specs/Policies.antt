@@ -1,15 +1,12 @@
 -- Policies and contexts, document 01, "Policy, context, derived key": their bytes, which are valid, when two are the same, and the sizes of keys.
 -- Sentences in quotation marks are document 01's, in its words. Assumes nothing.
-use Rattle.std.specs.Prelude.{ℕ, ◌≡◌, Bool, cond, not, ◌&&◌, ◌∷◌, ◌++◌, length, take, drop, get_or, eqb, leb}
+use Rattle.std.specs.Prelude.{ℕ, ◌≡◌, Bool, cond, not, ◌&&◌, ◌∷◌, ◌++◌, length, take, drop, get_or, eqb, leb, Result, Ok, Err}
 use Rattle.lists.specs.Bytes.{Bytes, same, zeros}
-use Rattle.errno.specs.Refusals.{number, ◌⇒◌, ◌>>◌, is_fine}
+use Rattle.errno.specs.Refusals.{Checked, fine, number, ◌⇒◌, ◌>>◌, check_of, is_fine}
+use Rattle.errno.specs.declared.Errno.{Errno}
 use Rattle.errno.specs.declared.Errno.TheVariants.{EINVAL}
-use Rattle.errno.specs.declared.Checked.{Checked}
-use Rattle.errno.specs.declared.Checked.TheVariants.{Fine, Refused}
 use Rattle.policy.specs.declared.Policy.{Policy}
 use Rattle.policy.specs.declared.Context.{Context}
-use Rattle.policy.specs.declared.PolicyRead.{PolicyRead}
-use Rattle.policy.specs.declared.ContextRead.{ContextRead}
 
 -- ---- which policies are valid
 
@@ -69,7 +66,7 @@ unfoldable pub policy_check : Bytes → Checked
 policy_check b = do
   not (eqb (length b) 12) ⇒ EINVAL
   not (is_valid (policy_at (get_or b 0 0) b)) ⇒ EINVAL
-  Fine
+  fine
 
 -- "Reading one accepts exactly 28 bytes, format 1 and a valid policy, else EINVAL"
 unfoldable pub context_check : Bytes → Checked
@@ -77,20 +74,22 @@ context_check b = do
   not (eqb (length b) 28) ⇒ EINVAL
   not (eqb (get_or b 0 0) 1) ⇒ EINVAL
   not (is_valid (policy_at 0 b)) ⇒ EINVAL
-  Fine
+  fine
 
--- what was refused is all zeros
-abbrev pub refused_policy : PolicyRead
-refused_policy = record { checked = Refused EINVAL; policy = no_policy }
+unfoldable pub read_policy : Bytes → Result Policy Errno
+read_policy b = cond (is_fine (policy_check b)) (Ok (policy_at (get_or b 0 0) b)) (Err EINVAL)
 
-abbrev pub refused_context : ContextRead
-refused_context = record { checked = Refused EINVAL; context = no_context }
+unfoldable pub read_context : Bytes → Result Context Errno
+read_context b = cond (is_fine (context_check b)) (Ok (context_at b)) (Err EINVAL)
 
-unfoldable pub read_policy : Bytes → PolicyRead
-read_policy b = cond (is_fine (policy_check b)) (record { checked = Fine; policy = policy_at (get_or b 0 0) b }) refused_policy
+-- the policy in what was read; where it was refused, all zeros
+abbrev pub policy_in : Result Policy Errno → Policy
+policy_in (Ok p) = p
+policy_in (Err e) = no_policy
 
-unfoldable pub read_context : Bytes → ContextRead
-read_context b = cond (is_fine (context_check b)) (record { checked = Fine; context = context_at b }) refused_context
+abbrev pub context_in : Result Context Errno → Context
+context_in (Ok c) = c
+context_in (Err e) = no_context
 
 -- ---- what a read answers, in document 01's terms: the value, or the refusal's number alone
 
@@ -100,8 +99,8 @@ pub data Answer (A : Type 0) : Type 0 where
 
 -- of a check, and the value where it is passed
 abbrev pub answered : {A : Type 0} → Checked → A → Answer A
-answered Fine value = taken value
-answered (Refused e) value = refused (number e)
+answered (Ok _) value = taken value
+answered (Err e) value = refused (number e)
 
 unfoldable pub policy_answer : Bytes → Answer Policy
 policy_answer b = answered (policy_check b) (policy_at (get_or b 0 0) b)
@@ -109,11 +108,11 @@ policy_answer b = answered (policy_check b) (policy_at (get_or b 0 0) b)
 unfoldable pub context_answer : Bytes → Answer Context
 context_answer b = answered (context_check b) (context_at b)
 
--- what the functions that read give back: a record of the check and the value, zeros where it is refused, that stands for this answer
-pub record ReadsPolicy (b : Bytes) (r : PolicyRead) : Type 0 where
+-- what the functions that read give back, which stands for this answer
+pub record ReadsPolicy (b : Bytes) (r : Result Policy Errno) : Type 0 where
   pub read : r ≡ read_policy b
-  pub answer : answered r.checked r.policy ≡ policy_answer b
+  pub answer : answered (check_of r) (policy_in r) ≡ policy_answer b
 
-pub record ReadsContext (b : Bytes) (r : ContextRead) : Type 0 where
+pub record ReadsContext (b : Bytes) (r : Result Context Errno) : Type 0 where
   pub read : r ≡ read_context b
-  pub answer : answered r.checked r.context ≡ context_answer b
+  pub answer : answered (check_of r) (context_in r) ≡ context_answer b

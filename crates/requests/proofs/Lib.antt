@@ -1,2 +1,2 @@
 -- The laws behind the requests' proofs.
-mod Settling
+pub mod Passing

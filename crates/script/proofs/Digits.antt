@@ -4,47 +4,40 @@ use Prim.Native.Nat.{ℕ, zero, suc, ◌+◌, ◌-◌, ◌*◌, ◌/◌, ◌%◌
 use native.Mathlib.Numerals.{add-one}
 use native.Mathlib.Omega.{arith}
 use mathlib.Core.Path.{◌≡◌, refl, ap}
-use mathlib.Core.Bool.{Bool, true, false, cond, ◌&&◌}
+use mathlib.Core.Bool.{Bool, true, false, cond, true≢false}
 use mathlib.Core.List.{[], ◌∷◌, ◌++◌}
-use lib.ListN.{length, get_or, drop, length-append, drop_of_length-le}
+use lib.ListN.{length, get_or, drop, length-append}
 use lib.Seq.{drop-cons}
-use lib.Dec.{ltb}
-use borrow.Author.Tests.{le-leb, lt-leb, lt-ltb, le-ltb}
+use lib.Dec.{ltb, eqb}
+use borrow.Author.Tests.{le-leb, lt-leb, lt-ltb, le-ltb, eqb-true}
 use Rattle.lists.specs.Bytes.{Bytes}
 use Rattle.script.specs.Numbers.{most_number, is_digit, digits_from, number_of, last_digits, decimal}
-use Rattle.script.specs.declared.Number.TheVariants.{Is, Not}
+use Rattle.std.specs.Prelude.{None}
 
 -- a word with no byte
-pub no_digits : (s : Bytes) → length s ≡ 0 → Not ≡ number_of s
+pub no_digits : (s : Bytes) → eqb (length s) 0 ≡ true → None ≡ number_of s
 unfolding number_of
 no_digits [] h = refl
-no_digits (x ∷ s) h = absurd (omega arith)
+no_digits (x ∷ s) h = absurd (omega (arith, eqb-true (suc (length s)) 0 h))
 
-pub digits_start : (s : Bytes) → (length s ≡ 0 → ⊥) → number_of s ≡ digits_from 0 (drop 0 s)
+pub digits_start : (s : Bytes) → eqb (length s) 0 ≡ false → number_of s ≡ digits_from 0 s
 unfolding number_of
-digits_start [] h = absurd (h refl)
+digits_start [] h = absurd (true≢false h)
 digits_start (x ∷ s) h = refl
 
-and_false : (t : Bool) → (t && false) ≡ false
-and_false true = refl
-and_false false = refl
-
 module _ (s : Bytes) (i n : ℕ) (h : i < length s) where
-  pub digits_bad : is_digit (get_or s i 0) ≡ false → digits_from n (drop i s) ≡ Not
+  pub digits_bad : is_digit (get_or s i 0) ≡ false → digits_from n (drop i s) ≡ None
   unfolding digits_from
   digits_bad e = rw (drop-cons s i 0 h, e)
 
-  pub digits_large : most_number < n * 10 + (get_or s i 0 - 48) → digits_from n (drop i s) ≡ Not
-  unfolding digits_from
-  digits_large e = rw (drop-cons s i 0 h, lt-leb _ _ e, and_false (is_digit (get_or s i 0)))
+  module _ (e : is_digit (get_or s i 0) ≡ true) where
+    pub digits_large : most_number < n * 10 + (get_or s i 0 - 48) → digits_from n (drop i s) ≡ None
+    unfolding digits_from
+    digits_large f = rw (drop-cons s i 0 h, e, lt-leb _ _ f)
 
-  pub digits_next : is_digit (get_or s i 0) ≡ true → n * 10 + (get_or s i 0 - 48) ≤ most_number → digits_from n (drop i s) ≡ digits_from (n * 10 + (get_or s i 0 - 48)) (drop (i + 1) s)
-  unfolding digits_from
-  digits_next e f = rw (drop-cons s i 0 h, e, le-leb _ _ f, add-one i)
-
-pub digits_end : (s : Bytes) (i n : ℕ) → length s ≤ i → digits_from n (drop i s) ≡ Is n
-unfolding digits_from
-digits_end s i n h = rw (drop_of_length-le s h)
+    pub digits_next : n * 10 + (get_or s i 0 - 48) ≤ most_number → digits_from n (drop i s) ≡ digits_from (n * 10 + (get_or s i 0 - 48)) (drop (i + 1) s)
+    unfolding digits_from
+    digits_next f = rw (drop-cons s i 0 h, e, le-leb _ _ f, add-one i)
 
 pub last_none : (k n : ℕ) → k ≡ 0 → last_digits k n ≡ []
 unfolding last_digits

@@ -10,9 +10,9 @@ use lib.ListN.{length, take, get_or, set, length-take, length-set, length-append
 use lib.Seq.{take_all, take-suc, take-suc-set, append_snoc}
 use lib.Dec.{eqb, ltb}
 use borrow.Author.Tests.{lt-ltb, le-ltb, ltb-true, ltb-false, eq-eqb, ne_eqb}
-use Rattle.lists.specs.Bytes.{Bytes, first_at}
+use Rattle.lists.specs.Bytes.{Bytes}
 use Rattle.script.specs.Words.{is_blank}
-use Rattle.script.specs.Cutting.{is_newline, before_newline, last_of, with_last, keep, kept_on}
+use Rattle.script.specs.Cutting.{last_of, with_last, keep, kept_on}
 
 -- ---- the ways of `keep`
 
@@ -55,6 +55,9 @@ module _ (line : Bytes) (used b : ℕ) where
     pub store_word : is_blank (last_of line) ≡ false → (last_of line ≡ 13 → ⊥) → take used line ≡ keep (length line) (take used line) b
     store_word t e = take_all used line h ∙ sym (keep_word _ line b (omega arith) t e) ∙ full
 
+-- what `add_byte` does, in the order of its code
+pub ruleset stores = (store_room, store_blank, store_return, store_word)
+
 -- ---- bytes that come in parts
 
 pub kept_on_append : (room : ℕ) (k s t : Bytes) → kept_on room k (s ++ t) ≡ kept_on room (kept_on room k s) t
@@ -68,13 +71,9 @@ module _ (room : ℕ) (k s : Bytes) (i : ℕ) (h : i < length s) where
   unfolding kept_on
   kept_on_next = sym (rw (add-one, take-suc s i 0 h) (kept_on_append room k (take i s) (get_or s i 0 ∷ [])))
 
-pub cut_here : (room : ℕ) (k s : Bytes) (i : ℕ) → i ≡ first_at is_newline s → kept_on room k (take i s) ≡ kept_on room k (before_newline s)
-unfolding before_newline
-cut_here room k s i e = ap (λ (n : ℕ). kept_on room k (take n s)) e
-
 -- ---- how much is kept: all that there is room for
 
-pub keep_length : (room : ℕ) (k : Bytes) (b : ℕ) → length k ≤ room → length (keep room k b) ≡ min room (length k + 1)
+keep_length : (room : ℕ) (k : Bytes) (b : ℕ) → length k ≤ room → length (keep room k b) ≡ min room (length k + 1)
 unfolding keep
 keep_length room k b h = go (ltb (length k) room) (is_blank (last_of k)) (eqb (last_of k) 13) refl
   where

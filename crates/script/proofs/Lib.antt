@@ -1,5 +1,5 @@
 -- The laws of script.
-pub mod Picks
+pub mod Finding
 pub mod Stores
 pub mod Digits
 pub mod Hex

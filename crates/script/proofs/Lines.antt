@@ -17,3 +17,5 @@ first_word_length s = omega (arith, trimmed_length s, length-take (first_at is_b
 pub after_word_length : (s : Bytes) → length (after_word s) ≤ length s
 unfolding after_word
 after_word_length s = omega (arith, trimmed_length s, length-drop (first_at is_blank (trimmed s)) (trimmed s))
+
+pub ruleset lengths = (first_word_length, after_word_length)

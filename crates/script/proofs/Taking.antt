@@ -1,201 +1,157 @@
--- What a word that is taken comes to, case by case; and a word that is not the byte string of any length leaves the payload.
+-- Words read one after the other: the next word of a line, what the words leave in a buffer, what each word keeps, and how many bytes there are.
 -- Assumes nothing.
-use Prim.Native.Nat.{ℕ, ◌≤◌}
-use mathlib.Core.Path.{◌≡◌, refl, sym, ◌∙◌, ap}
-use mathlib.Core.Bool.{Bool, true, false, cond, true≢false}
-use lib.ListN.{length, take}
-use lib.Dec.{eqb}
-use native.Mathlib.Omega.{arith}
-use mathlib.Core.List.{[]}
-use Rattle.lists.specs.Bytes.{Bytes, same, zeros, is_empty}
-use Rattle.lists.proofs.Tests.{and_right, eqb-true}
+use Rattle.std.proofs.Common.{◌≡◌, refl, ap, subst, ◌∙◌, ℕ, suc, ◌+◌, ◌≤◌, ◌<◌, Bool, true, false, cond, List, [], ◌∷◌, length, get_or, drop, drop-cons, add-one, Option, Some, None, is_some, option_map, option_and_then, sym, arith}
+use Rattle.lists.specs.Bytes.{Bytes, same, is_empty, zeros}
 use Rattle.script.specs.Text.{text}
 use Rattle.script.specs.Words.{first_word, after_word}
 use Rattle.script.specs.Numbers.{number_of}
 use Rattle.script.specs.Strings.{is_byte_string, bytes_of}
-use Rattle.script.specs.Commands.{bad, with_first, with_second, set_second, with_len, with_descriptor, with_nonce, is_bytes, no_args, taken, taken_text, Reading, reading, next, next_two, read_words}
+use Rattle.script.specs.Commands.{with_first, with_second, with_len, with_descriptor, with_nonce, is_bytes, bytes_in, no_args, taken, taken_text, Reading, reading, next, read_on, read_words, laid_text, is_taken, left_in}
+use Rattle.script.specs.declared.Sort.{Sort}
+use Rattle.script.specs.declared.Sort.TheVariants.{First, Second, Text, Descriptor, Nonce, Size}
+use Rattle.script.specs.declared.Args.{Args}
 use Rattle.script.proofs.Hex.{bytes_of_length}
 use Rattle.script.proofs.Lines.{first_word_length, after_word_length}
-use Rattle.script.specs.declared.Number.{Number}
-use Rattle.script.specs.declared.Number.TheVariants.{Is, Not}
-use Rattle.script.specs.declared.Sort.{Sort}
-use Rattle.script.specs.declared.Sort.TheVariants.{First, Second, Text, Descriptor, Nonce, Size, Nothing}
-use Rattle.script.specs.declared.Shape.{Shape}
-use Rattle.script.specs.declared.Args.{Args}
 
-abbrev is_text : Sort → Bool
-is_text First = false
-is_text Second = false
-is_text Text = true
-is_text Descriptor = false
-is_text Nonce = false
-is_text Size = false
-is_text Nothing = false
+-- a word more, the one at position i
+pub read_next : (p q : Reading) (shape : List Sort) (i : ℕ) (d : Sort) (line w rest : Bytes) → i < length shape → w ≡ first_word line → rest ≡ after_word line
+    → Some q ≡ next p (get_or shape i d) w → read_on p (drop i shape) line ≡ read_on q (drop (i + 1) shape) rest
+read_next p q shape i d line w rest h e f g =
+    let here : read_on p (drop i shape) line ≡ option_and_then (λ (r : Reading). read_on r (drop (suc i) shape) (after_word line)) (next p (get_or shape i d) (first_word line)) = rw (drop-cons shape i d h) in
+    let more : Some q ≡ next p (get_or shape i d) (first_word line) = g ∙ ap (next p (get_or shape i d)) e in
+    here ∙ rw (← more, ← f, add-one)
 
-module _ (a : Args) where
-  first : (n : Number) → (with_first a n).len ≡ a.len
-  first (Is n) = refl
-  first Not = refl
+-- ---- what the words leave in a buffer
 
-  second : (n : Number) → (with_second a n).len ≡ a.len
-  second (Is n) = refl
-  second Not = refl
+is_mapped : {A B : Type 0} (f : A → B) (o : Option A) → is_some (option_map f o) ≡ is_some o
+is_mapped f None = refl
+is_mapped f (Some x) = refl
 
-  either : (t : Bool) (b c : Args) → b.len ≡ a.len → c.len ≡ a.len → (cond t b c).len ≡ a.len
-  either true b c h k = h
-  either false b c h k = k
+-- whether a word is taken, whatever has been read before it
+is_taken_after : (a : Args) (s : Sort) (w : Bytes) → is_some (taken a s w) ≡ is_taken s w
+unfolding taken
+is_taken_after a First w = is_mapped _ (number_of w) ∙ sym (is_mapped _ (number_of w))
+is_taken_after a Second w = is_mapped _ (number_of w) ∙ sym (is_mapped _ (number_of w))
+is_taken_after a Descriptor w = is_mapped _ (bytes_in 8 w) ∙ sym (is_mapped _ (bytes_in 8 w))
+is_taken_after a Text w = by_case (is_byte_string w)
+  where
+    by_case : (t : Bool) → is_some (cond t (Some (with_len a (length (bytes_of w)))) None) ≡ is_some (cond t (Some (with_len no_args (length (bytes_of w)))) None)
+    by_case true = refl
+    by_case false = refl
+is_taken_after a Nonce w = by_case (same w (text "-"))
+  where
+    by_case : (t : Bool) → is_some (cond t (Some (with_nonce a (zeros 16))) (option_map (with_nonce a) (bytes_in 16 w))) ≡ is_some (cond t (Some (with_nonce no_args (zeros 16))) (option_map (with_nonce no_args) (bytes_in 16 w)))
+    by_case true = refl
+    by_case false = is_mapped _ (bytes_in 16 w) ∙ sym (is_mapped _ (bytes_in 16 w))
+is_taken_after a Size w = by_case (is_empty w)
+  where
+    by_case : (t : Bool) → is_some (cond t (Some (with_second a 255)) (option_map (with_second a) (number_of w))) ≡ is_some (cond t (Some (with_second no_args 255)) (option_map (with_second no_args) (number_of w)))
+    by_case true = refl
+    by_case false = is_mapped _ (number_of w) ∙ sym (is_mapped _ (number_of w))
 
-  pub kept : (w : Bytes) (s : Sort) → is_text s ≡ false → (taken a s w).len ≡ a.len
+-- the word at position i, which comes to r and leaves the buffer `after`
+module _ (p : Reading) (shape : List Sort) (i : ℕ) (d : Sort) (line w buffer after : Bytes) (h : i < length shape) (e : w ≡ first_word line)
+    (k : after ≡ cond (is_taken (get_or shape i d) w) (laid_text buffer (get_or shape i d) w) buffer) where
+  is_taken_as : (r : Option Reading) → r ≡ next p (get_or shape i d) w → is_some r ≡ is_taken (get_or shape i d) w
+  is_taken_as r g = ap is_some g ∙ is_mapped _ (taken p.args (get_or shape i d) w) ∙ is_taken_after p.args (get_or shape i d) w
+
+  -- a word more
+  pub left_next : (q : Reading) (rest : Bytes) → rest ≡ after_word line → Some q ≡ next p (get_or shape i d) w
+      → left_in after (drop (i + 1) shape) rest ≡ left_in buffer (drop i shape) line
+  left_next q rest f g =
+      let t : is_taken (get_or shape i d) w ≡ true = sym (is_taken_as (Some q) g) in
+      rw (drop-cons shape i d h, ← e, t, k, t, f, add-one) refl
+
+  -- a word that is not what it should be, and none after it
+  pub left_stop : None ≡ next p (get_or shape i d) w → after ≡ left_in buffer (drop i shape) line
+  left_stop g =
+      let t : is_taken (get_or shape i d) w ≡ false = sym (is_taken_as None g) in
+      rw (drop-cons shape i d h, ← e, t, k, t) refl
+
+-- ---- what a word comes to
+
+-- a fact of arguments, of each way in which a word is taken
+pub record EachWay (P : Args → Type 0) (a : Args) (w : Bytes) : Type 0 where
+  pub first : (n : ℕ) → P (with_first a n)
+  pub second : (n : ℕ) → P (with_second a n)
+  pub text_is : is_byte_string w ≡ true → P (with_len a (length (bytes_of w)))
+  pub descriptor : is_bytes 8 w ≡ true → P (with_descriptor a (bytes_of w))
+  pub no_nonce : P (with_nonce a (zeros 16))
+  pub nonce : is_bytes 16 w ≡ true → P (with_nonce a (bytes_of w))
+
+module _ (P : Args → Type 0) where
+  just : (a b : Args) → Some a ≡ Some b → P a → P b
+  just a b e h = let same_args : a ≡ b = cc in subst P same_args h
+
+  number_gives : (f : ℕ → Args) (o : Option ℕ) (b : Args) → option_map f o ≡ Some b → ((n : ℕ) → P (f n)) → P b
+  number_gives f None b e h = absurd cc
+  number_gives f (Some n) b e h = just (f n) b e (h n)
+
+  bytes_give : (f : Bytes → Args) (n : ℕ) (w : Bytes) (b : Args) → option_map f (bytes_in n w) ≡ Some b → (is_bytes n w ≡ true → P (f (bytes_of w))) → P b
+  bytes_give f n w b e h = by_case (is_bytes n w) refl e
+    where
+      by_case : (t : Bool) → is_bytes n w ≡ t → option_map f (cond t (Some (bytes_of w)) None) ≡ Some b → P b
+      by_case true t g = just (f (bytes_of w)) b g (h t)
+      by_case false t g = absurd cc
+
+  either : (t : Bool) (x y : Option Args) (b : Args) → cond t x y ≡ Some b → (t ≡ true → x ≡ Some b → P b) → (y ≡ Some b → P b) → P b
+  either true x y b e h k = h refl e
+  either false x y b e h k = k e
+
+  pub taken_gives : (a : Args) (w : Bytes) → EachWay P a w → (s : Sort) (b : Args) → taken a s w ≡ Some b → P b
   unfolding taken
-  kept w First h = first (number_of w)
-  kept w Second h = second (number_of w)
-  kept w Text h = absurd (true≢false h)
-  kept w Descriptor h = either (is_bytes 8 w) (with_descriptor a (bytes_of w)) (bad a) refl refl
-  kept w Nonce h =
-      either (same w (text "-")) (with_nonce a (zeros 16)) (cond (is_bytes 16 w) (with_nonce a (bytes_of w)) (bad a)) refl
-      (either (is_bytes 16 w) (with_nonce a (bytes_of w)) (bad a) refl refl)
-  kept w Size h = either (is_empty w) (set_second a 255) (with_second a (number_of w)) refl (second (number_of w))
-  kept w Nothing h = either (is_empty w) a (bad a) refl refl
+  taken_gives a w h First b e = number_gives (with_first a) (number_of w) b e h.first
+  taken_gives a w h Second b e = number_gives (with_second a) (number_of w) b e h.second
+  taken_gives a w h Text b e = either (is_byte_string w) _ None b e (λ t g. just _ b g (h.text_is t)) (λ g. absurd cc)
+  taken_gives a w h Descriptor b e = bytes_give (with_descriptor a) 8 w b e h.descriptor
+  taken_gives a w h Nonce b e = either (same w (text "-")) _ _ b e (λ t g. just _ b g h.no_nonce) (λ g. bytes_give (with_nonce a) 16 w b g h.nonce)
+  taken_gives a w h Size b e = either (is_empty w) _ _ b e (λ t g. just _ b g (h.second 255)) (λ g. number_gives (with_second a) (number_of w) b g h.second)
 
-  same_bytes : (w t : Bytes) (s : Sort) → is_text s ≡ false → t ≡ taken_text t s w
-  unfolding taken_text
-  same_bytes w t First h = refl
-  same_bytes w t Second h = refl
-  same_bytes w t Text h = absurd (true≢false h)
-  same_bytes w t Descriptor h = refl
-  same_bytes w t Nonce h = refl
-  same_bytes w t Size h = refl
-  same_bytes w t Nothing h = refl
+-- ---- what each word keeps, all words keep
 
-  -- the sort that a match has told, and what was taken for it
-  pub took : (w b : Bytes) (s told : Sort) (r : Args) → s ≡ told → is_text told ≡ false → r ≡ taken a told w → (r ≡ taken a s w) × (take r.len b ≡ taken_text (take a.len b) s w)
-  took w b s told r t h e = (
-    e ∙ ap (λ (x : Sort). taken a x w) (sym t),
-    ap (λ (x : Args). take x.len b) e
-        ∙ ap (λ (n : ℕ). take n b) (kept w told h)
-        ∙ same_bytes w (take a.len b) told h
-        ∙ ap (λ (x : Sort). taken_text (take a.len b) x w) (sym t),
-  )
+-- a fact of what has been read, and of what is left of the line
+module _ (P : Reading → Bytes → Type 0) where
+  -- a word that is taken keeps it
+  abbrev pub Keeps : Type 0
+  Keeps = (p : Reading) (line : Bytes) → P p line → (s : Sort) (a : Args) → taken p.args s (first_word line) ≡ Some a
+      → P (reading a (taken_text p.bytes s (first_word line))) (after_word line)
 
--- ---- the cases of `taken`
+  -- then it holds of what all words come to, and of what is left after them
+  pub read_keeps : Keeps → (shape : List Sort) (p q : Reading) (line : Bytes) → P p line → read_on p shape line ≡ Some q → (rest : Bytes) × P q rest
+  read_keeps k [] p q line h e = by_case (is_empty (first_word line)) e
+    where
+      by_case : (t : Bool) → cond t (Some p) None ≡ Some q → (rest : Bytes) × P q rest
+      by_case true f = let same_reading : p ≡ q = cc in (line, subst (λ (r : Reading). P r line) same_reading h)
+      by_case false f = absurd cc
+  read_keeps k (s ∷ shape) p q line h e =
+      by_case (taken p.args s w) refl (λ (r : Reading) (l : P r (after_word line)) (f : read_on r shape (after_word line) ≡ Some q). read_keeps k shape r q (after_word line) l f) e
+    where
+      w : Bytes
+      w = first_word line
 
-module _ (a : Args) (w : Bytes) where
-  pub first_is : (n : Number) → n ≡ number_of w → with_first a n ≡ taken a First w
-  unfolding taken
-  first_is n e = ap (with_first a) e
-
-  pub second_is : (n : Number) → n ≡ number_of w → with_second a n ≡ taken a Second w
-  unfolding taken
-  second_is n e = ap (with_second a) e
-
-  pub text_is : is_byte_string w ≡ true → with_len a (length (bytes_of w)) ≡ taken a Text w
-  unfolding taken
-  text_is e = rw e
-
-  pub text_not : is_byte_string w ≡ false → bad a ≡ taken a Text w
-  unfolding taken
-  text_not e = rw e
-
-  pub bytes_are : (t : Bytes) → is_byte_string w ≡ true → bytes_of w ≡ taken_text t Text w
-  unfolding taken_text
-  bytes_are t e = rw e
-
-  pub bytes_stay : (t : Bytes) → is_byte_string w ≡ false → t ≡ taken_text t Text w
-  unfolding taken_text
-  bytes_stay t e = rw e
-
-  pub descriptor_is : is_bytes 8 w ≡ true → with_descriptor a (bytes_of w) ≡ taken a Descriptor w
-  unfolding taken
-  descriptor_is e = rw e
-
-  pub descriptor_not : is_bytes 8 w ≡ false → bad a ≡ taken a Descriptor w
-  unfolding taken
-  descriptor_not e = rw e
-
-  pub nonce_none : same w (text "-") ≡ true → with_nonce a (zeros 16) ≡ taken a Nonce w
-  unfolding taken
-  nonce_none e = rw e
-
-  pub nonce_is : same w (text "-") ≡ false → is_bytes 16 w ≡ true → with_nonce a (bytes_of w) ≡ taken a Nonce w
-  unfolding taken
-  nonce_is d e = rw (d, e)
-
-  pub nonce_not : same w (text "-") ≡ false → is_bytes 16 w ≡ false → bad a ≡ taken a Nonce w
-  unfolding taken
-  nonce_not d e = rw (d, e)
-
-  pub size_none : is_empty w ≡ true → set_second a 255 ≡ taken a Size w
-  unfolding taken
-  size_none e = rw e
-
-  pub size_is : is_empty w ≡ false → taken a Second w ≡ taken a Size w
-  unfolding taken
-  size_is e = rw e
-
-  pub nothing_is : is_empty w ≡ true → a ≡ taken a Nothing w
-  unfolding taken
-  nothing_is e = rw e
-
-  pub nothing_not : is_empty w ≡ false → bad a ≡ taken a Nothing w
-  unfolding taken
-  nothing_not e = rw e
-
--- a byte string of n bytes has n bytes
-pub is_bytes_count : (n : ℕ) (w : Bytes) → is_bytes n w ≡ true → length (bytes_of w) ≡ n
-is_bytes_count n w e = eqb-true (and_right (is_byte_string w) (eqb (length (bytes_of w)) n) e)
-
--- ---- two words, and all of them, from what each call says
-
-pub took_two : (a b r : Args) (one two : Sort) (line rest w x t u v : Bytes) → w ≡ first_word line → b ≡ taken a one w → u ≡ taken_text t one w → rest ≡ after_word line → x ≡ first_word rest → r ≡ taken b two x → v ≡ taken_text u two x
-    → (r ≡ (next_two (reading a t line) one two).args) × (v ≡ (next_two (reading a t line) one two).bytes)
-took_two a b r one two line rest w x t u v e f g h i j k = (cc, cc)
-
--- the first two words, where nothing has been taken before
-from_none : (z : Args) (b : Bytes) (line : Bytes) (one two : Sort) → z ≡ no_args → next_two (reading z (take z.len b) line) one two ≡ next_two (reading no_args [] line) one two
-from_none z b line one two e = ap (λ (x : Args). next_two (reading x (take x.len b) line) one two) e
-
-pub took_all : (z a b r : Args) (s : Shape) (buffer line rest more w t u : Bytes) → z ≡ no_args → a ≡ (next_two (reading z (take z.len buffer) line) s.one s.two).args → t ≡ (next_two (reading z (take z.len buffer) line) s.one s.two).bytes
-    → rest ≡ after_word (after_word line) → b ≡ (next_two (reading a t rest) s.three s.four).args → u ≡ (next_two (reading a t rest) s.three s.four).bytes → more ≡ after_word (after_word rest) → w ≡ first_word more
-    → r ≡ taken b Nothing w → (r ≡ (read_words s line).args) × (u ≡ (read_words s line).bytes)
-unfolding read_words
-took_all z a b r s buffer line rest more w t u q e f g h i j k l =
-    let m = from_none z buffer line s.one s.two q in
-    let x = e ∙ ap (λ (p : Reading). p.args) m in
-    let y = f ∙ ap (λ (p : Reading). p.bytes) m in
-    let v : u ≡ (next_two (next_two (reading no_args [] line) s.one s.two) s.three s.four).bytes = cc in
-    (cc, v ∙ same_bytes b _ _ Nothing refl)
+      by_case : (o : Option Args) → taken p.args s w ≡ o
+          → ((r : Reading) → P r (after_word line) → read_on r shape (after_word line) ≡ Some q → (rest : Bytes) × P q rest)
+          → option_and_then (λ (r : Reading). read_on r shape (after_word line)) (option_map (λ (a : Args). reading a (taken_text p.bytes s w)) o) ≡ Some q
+          → (rest : Bytes) × P q rest
+      by_case None t more f = absurd cc
+      by_case (Some a) t more f = more (reading a (taken_text p.bytes s w)) (k p line h s a t) f
 
 -- ---- the bytes are no more than the line has
 
-taken_len : (k : ℕ) (a : Args) (s : Sort) (w : Bytes) → a.len ≤ k → length w ≤ k → (taken a s w).len ≤ k
-taken_len k a First w h l = omega (arith, kept a w First refl)
-taken_len k a Second w h l = omega (arith, kept a w Second refl)
-taken_len k a Text w h l = text_len (is_byte_string w) refl
-  where
-    text_len : (t : Bool) → is_byte_string w ≡ t → (taken a Text w).len ≤ k
-    text_len true e = omega (arith, ap (λ (x : Args). x.len) (text_is a w e), bytes_of_length w)
-    text_len false e = omega (arith, ap (λ (x : Args). x.len) (text_not a w e))
-taken_len k a Descriptor w h l = omega (arith, kept a w Descriptor refl)
-taken_len k a Nonce w h l = omega (arith, kept a w Nonce refl)
-taken_len k a Size w h l = omega (arith, kept a w Size refl)
-taken_len k a Nothing w h l = omega (arith, kept a w Nothing refl)
-
 -- how far a reading has come keeps both bounds
-Within : ℕ → Reading → Type 0
-Within k p = (p.args.len ≤ k) × (length p.line ≤ k)
+Within : ℕ → Reading → Bytes → Type 0
+Within m p line = (p.args.len ≤ m) × (length line ≤ m)
 
-next_within : (k : ℕ) (p : Reading) (s : Sort) → Within k p → Within k (next p s)
+word_within : (m : ℕ) → Keeps (Within m)
 unfolding Within
-next_within k p s h = (taken_len k p.args s (first_word p.line) h.0 (omega (arith, h.1, first_word_length p.line)), omega (arith, h.1, after_word_length p.line))
+word_within m p line h s a e =
+    let w = first_word line in
+    let bytes = bytes_of_length w in
+    let word = first_word_length line in
+    (taken_gives (λ (b : Args). b.len ≤ m) p.args w (record { first = λ n. h.0; second = λ n. h.0; text_is = λ t. omega arith; descriptor = λ t. h.0; no_nonce = h.0; nonce = λ t. h.0 }) s a e, omega (arith, h.1, after_word_length line))
 
-pub read_words_len : (s : Shape) (line : Bytes) → (read_words s line).args.len ≤ length line
+pub read_words_len : (shape : List Sort) (line : Bytes) (q : Reading) → read_words shape line ≡ Some q → q.args.len ≤ length line
 unfolding read_words Within
-read_words_len s line =
-    let k = length line in
-    let p = reading no_args [] line in
-    let one = next_within k p s.one (omega arith, omega arith) in
-    let two = next_within k (next p s.one) s.two one in
-    let q = next_two p s.one s.two in
-    let three = next_within k q s.three two in
-    let four = next_within k (next q s.three) s.four three in
-    (next_within k (next_two q s.three s.four) Nothing four).0
+read_words_len shape line q e =
+    let m = length line in
+    (read_keeps (Within m) (word_within m) shape (reading no_args []) q line (omega arith, omega arith) e).1.0

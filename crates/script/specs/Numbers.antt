@@ -1,9 +1,7 @@
 -- Numbers: "A number is decimal digits, 0 to 18446744073709551615." Assumes nothing.
-use Rattle.std.specs.Prelude.{ℕ, zero, suc, ◌+◌, ◌-◌, ◌*◌, ◌/◌, ◌%◌, Bool, cond, ◌&&◌, [], ◌∷◌, ◌++◌, leb, ltb}
+use Rattle.std.specs.Prelude.{ℕ, zero, suc, ◌+◌, ◌-◌, ◌*◌, ◌/◌, ◌%◌, Bool, cond, ◌&&◌, [], ◌∷◌, ◌++◌, leb, ltb, Option, Some, None}
 use Rattle.lists.specs.Bytes.{Bytes}
 use Rattle.script.specs.Text.{is_within}
-use Rattle.script.specs.declared.Number.{Number}
-use Rattle.script.specs.declared.Number.TheVariants.{Is, Not}
 
 abbrev pub most_number : ℕ
 most_number = 18446744073709551615
@@ -13,13 +11,13 @@ abbrev pub is_digit : ℕ → Bool
 is_digit b = is_within 48 57 b
 
 -- the number that these digits go on to spell after those of n; a part of a number is never more than the whole
-unfoldable pub digits_from : ℕ → Bytes → Number
-digits_from n [] = Is n
-digits_from n (d ∷ s) = cond (is_digit d && leb (n * 10 + (d - 48)) most_number) (digits_from (n * 10 + (d - 48)) s) Not
+unfoldable pub digits_from : ℕ → Bytes → Option ℕ
+digits_from n [] = Some n
+digits_from n (d ∷ s) = cond (is_digit d && leb (n * 10 + (d - 48)) most_number) (digits_from (n * 10 + (d - 48)) s) None
 
 -- what a word spells: a number, or none
-unfoldable pub number_of : Bytes → Number
-number_of [] = Not
+unfoldable pub number_of : Bytes → Option ℕ
+number_of [] = None
 number_of (d ∷ s) = digits_from 0 (d ∷ s)
 
 -- the decimal digits of a number, at most so many of the last

@@ -5,20 +5,12 @@ pub mod arguments;
 pub mod cutting;
 pub mod numbers;
 pub mod output;
-mod ranges;
 pub mod strings;
 pub mod verbs;
 pub mod words;
 
-// A word read as a number.
-#[derive(Clone, Copy)]
-pub enum Number {
-    Is(u64),
-    Not,
-}
-
 // A request's word.
-#[derive(Clone, Copy)]
+#[derive(Clone, Copy, Debug, PartialEq, Eq)]
 pub enum Verb {
     AddKey,
     RemoveKey,
@@ -33,11 +25,10 @@ pub enum Verb {
     Show,
     Seal,
     Open,
-    Unknown,
 }
 
 // What a word after it should be. First and Second are the request's numbers, Text a KEY, POLICY, NAME or BLOCK.
-#[derive(Clone, Copy)]
+#[derive(Clone, Copy, Debug, PartialEq, Eq)]
 pub enum Sort {
     First,
     Second,
@@ -45,22 +36,11 @@ pub enum Sort {
     Descriptor,
     Nonce,
     Size,
-    Nothing,
 }
 
-// The words that a request takes.
-#[derive(Clone, Copy)]
-pub struct Shape {
-    pub one: Sort,
-    pub two: Sort,
-    pub three: Sort,
-    pub four: Sort,
-}
-
-// What the words after the request's come to; good is false where one is not what it should be.
-#[derive(Clone, Copy)]
+// What the words after the request's come to. `len` counts the bytes of a Text: they stand at the start of the caller's buffer, in no Vec beside it (no heap).
+#[derive(Clone, Copy, Debug, PartialEq, Eq)]
 pub struct Args {
-    pub good: bool,
     pub first: u64,
     pub second: u64,
     pub descriptor: [u8; 8],

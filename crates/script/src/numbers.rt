@@ -1,42 +1,20 @@
 // Numbers in decimal digits.
 ghost use Rattle.std.specs.Prelude.{◌≡◌};
-ghost use Rattle.script.specs.Numbers.{is_digit, number_of};
-
-use crate::{Number, ranges};
-
-pub fn is_digit(b: u8) -> bool
-    ensures { result ≡ is_digit b }
-{
-    ranges::is_within(b, b'0', b'9')
-}
-
-// A byte as a number that `put_decimal` prints.
-pub fn wide(b: u8) -> u64
-    ensures { result ≡ b }
-{
-    b as u64
-}
+ghost use Rattle.script.specs.Numbers.{number_of};
 
 // The number that a word spells.
-pub fn number(s: &[u8]) -> Number
+pub fn number(s: &[u8]) -> Option<u64>
     ensures { result ≡ number_of s.now }
 {
-    if s.len() == 0 {
-        return Number::Not;
+    if s.is_empty() {
+        return None;
     }
     let mut n: u64 = 0;
-    let mut i: usize = 0;
-    while i < s.len() {
-        let b = s[i];
-        if !is_digit(b) {
-            return Number::Not;
+    for &b in s {
+        if !b.is_ascii_digit() {
+            return None;
         }
-        let d = wide(b - b'0');
-        if (u64::MAX - d) / 10 < n {
-            return Number::Not;
-        }
-        n = n * 10 + d;
-        i += 1;
+        n = n.checked_mul(10)?.checked_add(u64::from(b - b'0'))?;
     }
-    Number::Is(n)
+    Some(n)
 }

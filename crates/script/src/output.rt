@@ -1,16 +1,16 @@
 // The texts of answers, put into a buffer one after the other. Each function puts its text at a position, and returns the position after it.
-ghost use Rattle.std.specs.Prelude.{◌≡◌, [], ◌∷◌, ◌+◌, ◌*◌, ◌/◌, ◌%◌, ◌≤◌, ◌<◌, length};
-ghost use Rattle.std.proofs.lemmas.List.Edits.{sets};
-ghost use Rattle.lists.specs.Bytes.{hex_digit};
+// The buffer is the caller's, with no Vec or String to append to: no function of the repository has a heap.
+// Buffer and position stay a pair: `Puts` is over it, and `vectors` writes to a buffer of its own.
+// They are put by hand, and not by a Display and `write!`: that says what it wrote only where it answers Ok, and the clauses `Puts` fix each byte in every case.
+ghost use Rattle.std.specs.Prelude.{[], ◌∷◌, ◌+◌, ◌*◌, ◌≤◌, ◌<◌, ◌≡◌, length};
 ghost use Rattle.script.specs.Numbers.{last_digits, decimal};
-ghost use Rattle.script.specs.Strings.{to_hex, is_graphic, is_all_graphic, name_text};
-
-use crate::ranges;
+ghost use Rattle.script.specs.Strings.{to_hex, is_all_graphic, name_text};
+ghost use Rattle.script.specs.Text.{Puts};
 
 // A text as it is.
 pub fn put(out: &mut [u8], at: usize, s: &[u8]) -> usize
     requires { at + length s.now ≤ length out.old }
-    ensures { (result ≡ at + length s.now) × (out.new ≡ sets out.old at s.now) }
+    ensures { Puts out.old at s.now out.new result }
 {
     lists::copy_to(out, at, s);
     at + s.len()
@@ -18,16 +18,16 @@ pub fn put(out: &mut [u8], at: usize, s: &[u8]) -> usize
 
 fn put_byte(out: &mut [u8], at: usize, b: u8) -> usize
     requires { at < length out.old }
-    ensures { (result ≡ at + 1) × (out.new ≡ sets out.old at (b ∷ [])) }
+    ensures { Puts out.old at (b ∷ []) out.new result }
 {
     out[at] = b;
     at + 1
 }
 
-// The last k digits of a number, or as many as it has.
+// The last k digits of a number, or as many as it has. It calls itself, as the digits come last to first: a loop would count them before, and be no plainer.
 fn put_digits(out: &mut [u8], at: usize, n: u64, k: usize) -> usize
     requires { at + k ≤ length out.old }
-    ensures { (result ≡ at + length (last_digits k n)) × (out.new ≡ sets out.old at (last_digits k n)) }
+    ensures { Puts out.old at (last_digits k n) out.new result }
 {
     if k == 0 {
         return at;
@@ -40,66 +40,41 @@ fn put_digits(out: &mut [u8], at: usize, n: u64, k: usize) -> usize
 }
 
 // A number in decimal.
+#[tactic(auto, unfolding(crate::specs::Numbers::decimal))]
 pub fn put_decimal(out: &mut [u8], at: usize, n: u64) -> usize
     requires { at + 20 ≤ length out.old }
-    ensures { (result ≡ at + length (decimal n)) × (out.new ≡ sets out.old at (decimal n)) }
+    ensures { Puts out.old at (decimal n) out.new result }
 {
     put_digits(out, at, n, 20)
-}
-
-fn high_digit(b: u8) -> u8
-    ensures { result ≡ hex_digit (b / 16) }
-{
-    lists::hex_digit(b / 16)
-}
-
-fn low_digit(b: u8) -> u8
-    ensures { result ≡ hex_digit (b % 16) }
-{
-    lists::hex_digit(b % 16)
 }
 
 // Bytes in hex.
 pub fn put_hex(out: &mut [u8], at: usize, s: &[u8]) -> usize
     requires { at + 2 * length s.now ≤ length out.old }
-    ensures { (result ≡ at + length (to_hex s.now)) × (out.new ≡ sets out.old at (to_hex s.now)) }
+    ensures { Puts out.old at (to_hex s.now) out.new result }
 {
-    let mut i: usize = 0;
-    while i < s.len() {
-        out[at + 2 * i] = high_digit(s[i]);
-        out[at + 2 * i + 1] = low_digit(s[i]);
-        i += 1;
+    for (i, &b) in s.iter().enumerate() {
+        out[at + 2 * i] = lists::hex_digit(b / 16);
+        out[at + 2 * i + 1] = lists::hex_digit(b % 16);
     }
-    at + 2 * i
-}
-
-fn is_graphic(b: u8) -> bool
-    ensures { result ≡ is_graphic b }
-{
-    ranges::is_within(b, b'!', b'~')
+    at + 2 * s.len()
 }
 
 fn is_all_graphic(s: &[u8]) -> bool
     ensures { result ≡ is_all_graphic s.now }
 {
-    let mut i: usize = 0;
-    while i < s.len() {
-        if !is_graphic(s[i]) {
-            return false;
-        }
-        i += 1;
-    }
-    true
+    s.iter().all(|b| b.is_ascii_graphic())
 }
 
 // A name: as it is where it can be read so, else in hex.
 pub fn put_name(out: &mut [u8], at: usize, s: &[u8]) -> usize
     requires { at + (1 + 2 * length s.now) ≤ length out.old }
-    ensures { (result ≡ at + length (name_text s.now)) × (out.new ≡ sets out.old at (name_text s.now)) }
+    ensures { Puts out.old at (name_text s.now) out.new result }
 {
     if is_all_graphic(s) {
         let next = put_byte(out, at, b'=');
-        return put(out, next, s);
+        put(out, next, s)
+    } else {
+        put_hex(out, at, s)
     }
-    put_hex(out, at, s)
 }

@@ -1,100 +1,52 @@
 // The request's word, and the words that each request takes.
 ghost use Rattle.std.specs.Prelude.{◌≡◌};
-ghost use Rattle.script.specs.Commands.{contents_verb, directory_verb, verb_of, shape_of, shape};
+ghost use Rattle.script.specs.Commands.{verb_of, shape_of};
 
-use crate::{Shape, Sort, Verb};
+use crate::{Sort, Verb};
 
-fn contents_verb(w: &[u8]) -> Verb
-    ensures { result ≡ contents_verb w.now }
-{
-    if lists::same_bytes(w, b"show") {
-        return Verb::Show;
-    }
-    if lists::same_bytes(w, b"seal") {
-        return Verb::Seal;
-    }
-    if lists::same_bytes(w, b"open") {
-        return Verb::Open;
-    }
-    Verb::Unknown
-}
+// The requests' words, letter for letter.
+static WORDS: [(&[u8], Verb); 13] = [
+    (b"add-key", Verb::AddKey),
+    (b"remove-key", Verb::RemoveKey),
+    (b"set-policy", Verb::SetPolicy),
+    (b"get-policy", Verb::GetPolicy),
+    (b"create", Verb::Create),
+    (b"link", Verb::Link),
+    (b"rename", Verb::Rename),
+    (b"exchange", Verb::Exchange),
+    (b"remove", Verb::Remove),
+    (b"find", Verb::Find),
+    (b"show", Verb::Show),
+    (b"seal", Verb::Seal),
+    (b"open", Verb::Open),
+];
 
-fn directory_verb(w: &[u8]) -> Verb
-    ensures { result ≡ directory_verb w.now }
-{
-    if lists::same_bytes(w, b"create") {
-        return Verb::Create;
-    }
-    if lists::same_bytes(w, b"link") {
-        return Verb::Link;
-    }
-    if lists::same_bytes(w, b"rename") {
-        return Verb::Rename;
-    }
-    if lists::same_bytes(w, b"exchange") {
-        return Verb::Exchange;
-    }
-    if lists::same_bytes(w, b"remove") {
-        return Verb::Remove;
-    }
-    if lists::same_bytes(w, b"find") {
-        return Verb::Find;
-    }
-    contents_verb(w)
-}
-
-pub fn verb(w: &[u8]) -> Verb
+pub fn verb(w: &[u8]) -> Option<Verb>
     ensures { result ≡ verb_of w.now }
 {
-    if lists::same_bytes(w, b"add-key") {
-        return Verb::AddKey;
-    }
-    if lists::same_bytes(w, b"remove-key") {
-        return Verb::RemoveKey;
-    }
-    if lists::same_bytes(w, b"set-policy") {
-        return Verb::SetPolicy;
-    }
-    if lists::same_bytes(w, b"get-policy") {
-        return Verb::GetPolicy;
-    }
-    directory_verb(w)
+    WORDS
+        .iter()
+        .find(|(word, _)| w == *word)
+        .map(|(_, verb)| *verb)
 }
 
-fn takes(one: Sort, two: Sort, three: Sort, four: Sort) -> Shape
-    ensures { result ≡ shape one two three four }
-{
-    Shape {
-        one: one,
-        two: two,
-        three: three,
-        four: four,
-    }
-}
-
-// The words that a request takes.
-pub fn shape_of(v: Verb) -> Shape
-    ensures { result ≡ shape_of v }
+// What the words are that a request takes.
+pub fn shape_of(v: Verb) -> &'static [Sort]
+    ensures { result.now ≡ shape_of v }
 {
     match v {
-        Verb::AddKey => takes(Sort::Descriptor, Sort::Text, Sort::Nothing, Sort::Nothing),
-        Verb::RemoveKey => takes(
-            Sort::Descriptor,
-            Sort::Nothing,
-            Sort::Nothing,
-            Sort::Nothing,
-        ),
-        Verb::SetPolicy => takes(Sort::First, Sort::Text, Sort::Nonce, Sort::Nothing),
-        Verb::GetPolicy => takes(Sort::First, Sort::Nothing, Sort::Nothing, Sort::Nothing),
-        Verb::Create => takes(Sort::First, Sort::Second, Sort::Text, Sort::Nonce),
-        Verb::Link => takes(Sort::First, Sort::Second, Sort::Text, Sort::Nothing),
-        Verb::Rename => takes(Sort::First, Sort::Second, Sort::Text, Sort::Nothing),
-        Verb::Exchange => takes(Sort::First, Sort::Second, Sort::Nothing, Sort::Nothing),
-        Verb::Remove => takes(Sort::First, Sort::Nothing, Sort::Nothing, Sort::Nothing),
-        Verb::Find => takes(Sort::First, Sort::Text, Sort::Nothing, Sort::Nothing),
-        Verb::Show => takes(Sort::First, Sort::Size, Sort::Nothing, Sort::Nothing),
-        Verb::Seal => takes(Sort::First, Sort::Second, Sort::Text, Sort::Nothing),
-        Verb::Open => takes(Sort::First, Sort::Second, Sort::Text, Sort::Nothing),
-        Verb::Unknown => takes(Sort::Nothing, Sort::Nothing, Sort::Nothing, Sort::Nothing),
+        Verb::AddKey => &[Sort::Descriptor, Sort::Text],
+        Verb::RemoveKey => &[Sort::Descriptor],
+        Verb::SetPolicy => &[Sort::First, Sort::Text, Sort::Nonce],
+        Verb::GetPolicy | Verb::Remove => &[Sort::First],
+        Verb::Create => &[Sort::First, Sort::Second, Sort::Text, Sort::Nonce],
+        Verb::Link | Verb::Rename | Verb::Seal | Verb::Open => &[
+            Sort::First,
+            Sort::Second,
+            Sort::Text,
+        ],
+        Verb::Exchange => &[Sort::First, Sort::Second],
+        Verb::Find => &[Sort::First, Sort::Text],
+        Verb::Show => &[Sort::First, Sort::Size],
     }
 }

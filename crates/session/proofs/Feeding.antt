@@ -1,16 +1,16 @@
 -- What is answered to an input: bytes in parts, a line and its end, and a line of which a buffer keeps some bytes: it holds all of them, or the line is
 -- over the limit, and skipped or not alike.
 -- Assumes nothing.
-use Prim.Native.Nat.{ℕ, suc, ◌+◌, ◌-◌, ◌≤◌, ◌<◌}
+use Prim.Native.Nat.{ℕ, suc, ◌≤◌, ◌<◌}
 use native.Mathlib.Omega.{arith}
 use mathlib.Core.Path.{◌≡◌, refl, sym, ◌∙◌, ap}
 use mathlib.Core.Bool.{Bool, true, false, cond}
 use mathlib.Core.List.{[], ◌∷◌, ◌++◌, append-nil, append_assoc}
-use lib.ListN.{length, take, drop, get_or}
-use lib.Seq.{append_snoc, take-suc, take-add, take_all}
+use lib.ListN.{length, take, get_or}
+use lib.Seq.{append_snoc, take-suc}
 use lib.Dec.{ltb}
-use borrow.Author.Rules.{part_to_end}
 use borrow.Author.Tests.{ltb-true, ltb-false}
+use Rattle.std.specs.Prelude.{Option, unwrap_or}
 use Rattle.lists.specs.Bytes.{Bytes, first_at}
 use Rattle.lists.proofs.Copies.{laid_read}
 use Rattle.lists.proofs.Tables.{first_at_le, first_at_passes}
@@ -20,7 +20,8 @@ use Rattle.script.specs.Cutting.{is_newline, has_newline, before_newline, up_to_
 use Rattle.script.proofs.Keeping.{kept_on_length, kept_on_short, kept_on_append}
 use Rattle.lines.specs.Answers.{Said}
 use Rattle.lines.specs.Lines.{answered, HasRoom, line_outcome, answered_in}
-use Rattle.session.specs.Input.{Session, session, begun, ending, fed, said_at, fed_all, said_all, transcript, Held, Begun, Feeds, Says, Ends, Ran}
+use Rattle.session.specs.Input.{Session, session, begun, ending, fed, said_at, fed_all, said_all, transcript, Held, Begun, Feeds, Ends, Ran}
+use Rattle.session.specs.declared.input.Reader.{Reader}
 use Rattle.lines.specs.declared.LineAnswer.{LineAnswer}
 use Rattle.lines.proofs.Answering.{answers_none, overlong_alike}
 use Rattle.lines.proofs.Room.{replied_in}
@@ -119,57 +120,53 @@ module _ (s : Session) (c : Bytes) where
 
 -- ---- the buffer
 
-pub held_ends : (buffer : Bytes) (v : Volume) (used : ℕ) (b c payload out : Bytes) (r : LineAnswer) → 131074 ≤ length buffer → HasRoom (length (take used buffer)) (length b) (length c)
-    → line_outcome r payload out ≡ answered_in v (take used buffer) b c → Ends buffer v used out r
-held_ends buffer v used b c payload out r h g a s e =
+pub held_ends : (v : Volume) (buffer : Bytes) (used : ℕ) (b c payload out : Bytes) (r : LineAnswer) → 131074 ≤ length buffer → HasRoom (length (take used buffer)) (length b) (length c)
+    → line_outcome r payload out ≡ answered_in v (take used buffer) b c → (s : Session) → Held v buffer used s → (r.volume ≡ (ending s).volume) × (take (unwrap_or r.len 0) out ≡ (ending s).said)
+held_ends v buffer used b c payload out r h g a s e =
     let x = replied_in v (take used buffer) b c payload out r g a in
     let k : answered v (take used buffer) ≡ ending s = same e.0 e.1 ∙ answered_kept s.volume (length buffer) h s.line in
-    (x.0 ∙ ap (λ (t : Said). t.volume) k, ap (take r.len) x.2 ∙ laid_read c _ r.len x.1 ∙ ap (λ (t : Said). t.said) k)
+    let len = unwrap_or r.len 0 in
+    (x.0 ∙ ap (λ (t : Said). t.volume) k, ap (take len) x.2 ∙ laid_read c _ len (ap (λ (o : Option ℕ). unwrap_or o 0) x.1) ∙ ap (λ (t : Said). t.said) k)
   where
     same : {v w : Volume} {k l : Bytes} → v ≡ w → k ≡ l → answered v k ≡ answered w l
     same e f = cc
 
 module _ (before after : Bytes) (v : Volume) (m n : ℕ) (c : Bytes) (h : length after ≡ length before) (e : take n after ≡ kept_on (length before) (take m before) (before_newline c)) where
-  cut_held : (s : Session) → Held before v m s → Held after v n (lined s c)
+  cut_held : (s : Session) → Held v before m s → Held v after n (lined s c)
   cut_held s k = (k.0, e ∙ ap (λ (x : Bytes). kept_on (length before) x (before_newline c)) k.1 ∙ sym (kept_on_append (length before) [] s.line (before_newline c)) ∙ ap (λ (x : ℕ). kept x (s.line ++ before_newline c)) (sym h))
 
   -- no newline yet
   module _ (t : ℕ) (f : t ≡ up_to_newline c) (g : has_newline c ≡ false) where
-    pub goes_on : Feeds before v m (take t c) after v n × Says before v m (take t c) []
-    goes_on = (λ s k. rw (f, fed_on s c g) (cut_held s k), λ s k. rw f (sym (said_on s c g)))
+    pub goes_on : (s : Session) → Held v before m s → Held v after n (fed_all s (take t c)) × ([] ≡ said_all s (take t c))
+    goes_on s k = (rw (f, fed_on s c g) (cut_held s k), rw f (sym (said_on s c g)))
 
   -- a newline, and what is said to the line
-  module _ (t : ℕ) (f : t ≡ up_to_newline c) (g : has_newline c ≡ true) (out : Bytes) (r : LineAnswer) (a : Ends after v n out r) where
-    pub ends_here : Feeds before v m (take t c) after r.volume 0 × Says before v m (take t c) (take r.len out)
+  module _ (t : ℕ) (f : t ≡ up_to_newline c) (g : has_newline c ≡ true) (w : Volume) (last text : Bytes) (used : ℕ) (z : used ≡ 0)
+      (a : (s : Session) → Held v after n s → (w ≡ (ending s).volume) × (text ≡ (ending s).said)) where
+    pub ends_here : (s : Session) → Held v before m s → Held w last used (fed_all s (take t c)) × (text ≡ said_all s (take t c))
     unfolding kept_on
-    ends_here = (
-      λ s k. rw (f, fed_end s c g) ((a (lined s c) (cut_held s k)).0, refl),
-      λ s k. (a (lined s c) (cut_held s k)).1 ∙ rw f (sym (said_end s c g)),
-    )
+    ends_here s k =
+        let said = a (lined s c) (cut_held s k) in
+        (rw (f, fed_end s c g) (said.0, rw z), said.1 ∙ rw f (sym (said_end s c g)))
 
 -- a chunk, in parts
-module _ (b : Bytes) (v : Volume) (m : ℕ) (c : Bytes) where
-  pub feeds_none : Feeds b v m [] b v m
-  unfolding fed_all
-  feeds_none s k = k
+pub feeds_none : (r : Reader) → Feeds r [] r
+unfolding fed_all
+feeds_none r s k = k
 
-  module _ (after : Bytes) (w : Volume) (n at : ℕ) (f : Feeds b v m (take at c) after w n) where
-    pub feeds_more : (t : ℕ) (last : Bytes) (x : Volume) (o : ℕ) → Feeds after w n (take t (take (length c - at) (drop at c))) last x o → Feeds b v m (take (at + t) c) last x o
-    feeds_more t last x o g s k = rw (take-add at t c, fed_all_append, ← part_to_end c at) (g (fed_all s (take at c)) (f s k))
-
-    pub feeds_all : length c ≤ at → Feeds b v m c after w n
-    feeds_all h s k = rw (take_all at c h) at (f s k)
+pub feeds_more : (a b c : Reader) (t u : Bytes) → Feeds a t b → Feeds b u c → Feeds a (t ++ u) c
+feeds_more a b c t u f g s k = rw fed_all_append (g (fed_all s t) (f s k))
 
 -- an input, in chunks
-pub begun_none : (b : Bytes) (v : Volume) → v ≡ fresh → Begun b v 0
+pub begun_none : (b : Bytes) (v : Volume) → v ≡ fresh → (t : Bytes) × Held v b 0 (fed_all begun t)
 unfolding fed_all kept_on
 begun_none b v h = ([], (h, refl))
 
-pub begun_more : (b : Bytes) (v : Volume) (m : ℕ) (c after : Bytes) (w : Volume) (n : ℕ) → Begun b v m → Feeds b v m c after w n → Begun after w n
-begun_more b v m c after w n h f = (h.0 ++ c, rw fed_all_append (f (fed_all begun h.0) h.1))
+pub begun_more : (a b : Reader) (c : Bytes) → Begun a → Feeds a c b → Begun b
+begun_more a b c h f = (h.0 ++ c, rw fed_all_append (f (fed_all begun h.0) h.1))
 
-pub begun_ran : (b : Bytes) (v : Volume) (m : ℕ) (out : Bytes) (r : LineAnswer) → Begun b v m → Ends b v m out r → Ran r.volume
-begun_ran b v m out r h e = (h.0, (e (fed_all begun h.0) h.1).0)
+pub begun_ran : (a b : Reader) (text : Bytes) → Begun a → Ends a b text → Ran b.volume
+begun_ran a b text h e = (h.0, (e.1 (fed_all begun h.0) h.1).0)
 
 -- where the last line has its newline, nothing is said at the end
 pub transcript_whole : (t : Bytes) → (fed_all begun t).line ≡ [] → transcript t ≡ said_all begun t

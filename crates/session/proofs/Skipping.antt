@@ -14,7 +14,7 @@ use Rattle.script.specs.Words.{is_blank, trimmed, first_word}
 use Rattle.script.specs.Cutting.{last_of, with_last, keep, kept_on, kept}
 use Rattle.script.proofs.Keeping.{keep_room, keep_blank, keep_return, keep_word}
 use Rattle.lines.specs.Lines.{without_return, is_skipped}
-use Rattle.lines.proofs.Answering.{no_return_none, empty_skipped}
+use Rattle.lines.proofs.Answering.{empty_stays, empty_skipped}
 
 -- what the bytes so far of a line have: blanks alone, a carriage return after them, a comment, another word
 data Look : Type 0 where
@@ -75,7 +75,7 @@ without_more b c s =
     go false = refl
 
 skipped_look : (l : Bytes) → is_skipped (without_return l) ≡ skips (look bare l)
-skipped_look [] = ap is_skipped (sym (no_return_none [] refl)) ∙ empty_skipped
+skipped_look [] = ap is_skipped empty_stays ∙ empty_skipped
 skipped_look (b ∷ []) = ap is_skipped (without_one b) ∙ go (is_blank b) (eqb b 35) (eqb b 13) refl refl
   where
     go : (t u w : Bool) → is_blank b ≡ t → eqb b 35 ≡ u → is_skipped (cond w [] (b ∷ [])) ≡ skips (cond t bare (cond u comment (cond w returned word)))

@@ -1,12 +1,12 @@
 -- What is answered to an input, byte by byte. Quotations are the request script's. Assumes nothing.
-use Rattle.std.specs.Prelude.{ℕ, ◌+◌, ◌*◌, ◌≤◌, ◌≡◌, cond, [], ◌∷◌, ◌++◌, length, take}
+use Rattle.std.specs.Prelude.{ℕ, ◌≡◌, cond, [], ◌∷◌, ◌++◌, length, take}
 use Rattle.lists.specs.Bytes.{Bytes}
 use Rattle.volume.specs.Volume.{fresh}
 use Rattle.volume.specs.declared.Volume.{Volume}
 use Rattle.script.specs.Cutting.{is_newline, kept}
 use Rattle.lines.specs.Answers.{Said}
 use Rattle.lines.specs.Lines.{answered}
-use Rattle.lines.specs.declared.LineAnswer.{LineAnswer}
+use Rattle.session.specs.declared.input.Reader.{Reader}
 
 -- the volume, and the bytes so far of the line that has begun
 pub record Session : Type 0 where
@@ -44,35 +44,30 @@ said_all s (b ∷ t) = said_at s b ++ said_all (fed s b) t
 unfoldable pub transcript : Bytes → Bytes
 transcript t = said_all begun t ++ (ending (fed_all begun t)).said
 
--- ---- what code has of a session, in its buffers
+-- ---- what code has of a session
 
--- the buffers lent: one with room for a line, or for enough of a longer one to tell that it is too long; one for the bytes that a line spells; one for the answer
-abbrev pub Room : Bytes → Bytes → Bytes → Type 0
-Room line payload out = (131074 ≤ length line) × (length line ≤ length payload) × (1000 + 2 * length payload ≤ length out)
+-- the volume, and what a buffer keeps of the line: so many bytes at its start
+abbrev pub Held : Volume → Bytes → ℕ → Session → Type 0
+Held v buffer used s = (v ≡ s.volume) × (take used buffer ≡ kept (length buffer) s.line)
 
--- the same, with so many bytes of a line kept
-abbrev pub RoomFor : ℕ → Bytes → Bytes → Bytes → Type 0
-RoomFor used line payload out = (used ≤ length line) × (131074 ≤ length line) × (length line ≤ length payload) × (1000 + 2 * length payload ≤ length out)
-
--- the volume, and the first bytes of a buffer
-abbrev pub Held : Bytes → Volume → ℕ → Session → Type 0
-Held buffer v used s = (v ≡ s.volume) × (take used buffer ≡ kept (length buffer) s.line)
+abbrev pub Reads : Reader → Session → Type 0
+Reads r s = Held r.volume r.line.now r.used s
 
 -- a session of some bytes, from a fresh volume on
-abbrev pub Begun : Bytes → Volume → ℕ → Type 0
-Begun buffer v used = (t : Bytes) × Held buffer v used (fed_all begun t)
+abbrev pub Begun : Reader → Type 0
+Begun r = (t : Bytes) × Reads r (fed_all begun t)
 
 -- what code has after some bytes, for whatever session it had before
-abbrev pub Feeds : Bytes → Volume → ℕ → Bytes → Bytes → Volume → ℕ → Type 0
-Feeds before v m t after w n = (s : Session) → Held before v m s → Held after w n (fed_all s t)
+abbrev pub Feeds : Reader → Bytes → Reader → Type 0
+Feeds before t after = (s : Session) → Reads before s → Reads after (fed_all s t)
 
 -- what it says to them
-abbrev pub Says : Bytes → Volume → ℕ → Bytes → Bytes → Type 0
-Says before v m t text = (s : Session) → Held before v m s → text ≡ said_all s t
+abbrev pub Says : Reader → Bytes → Bytes → Type 0
+Says before t text = (s : Session) → Reads before s → text ≡ said_all s t
 
--- what it says at the end of a line, and the volume then
-abbrev pub Ends : Bytes → Volume → ℕ → Bytes → LineAnswer → Type 0
-Ends before v m out r = (s : Session) → Held before v m s → (r.volume ≡ (ending s).volume) × (take r.len out ≡ (ending s).said)
+-- what it says at the end of a line, and the volume then; of the next line it has nothing
+abbrev pub Ends : Reader → Reader → Bytes → Type 0
+Ends before after text = (after.used ≡ 0) × ((s : Session) → Reads before s → (after.volume ≡ (ending s).volume) × (text ≡ (ending s).said))
 
 -- a volume at the end of some input
 abbrev pub Ran : Volume → Type 0

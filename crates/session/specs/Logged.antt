@@ -1,8 +1,7 @@
 -- What is said to the lines of an input proves: whatever bytes have come, the volume is sound; and where `error 18 EXDEV` is then said, the line that ends makes a request that is
 -- refused with 18, by which, its later checks aside, an encrypted directory would have gained a regular file, directory or symlink that lacks its policy
 -- (volume/specs/PolicyClause.antt). Assumes nothing.
-use Rattle.std.specs.Prelude.{ℕ, ◌<◌, ◌≡◌}
-use Rattle.std.proofs.Math.Option.{some}
+use Rattle.std.specs.Prelude.{ℕ, ◌<◌, ◌≡◌, Some}
 use Rattle.lists.specs.Bytes.{Bytes, ByteList}
 use Rattle.fscrypt.specs.Cipher.{fscrypt}
 use Rattle.volume.specs.Request.{Request}
@@ -14,7 +13,7 @@ use Rattle.session.specs.Input.{Session, begun, ending, fed_all, said_at}
 
 -- the line of a session makes a request that is refused with 18; the directory is one, and the inode is there
 abbrev pub Proves : Session → Type 0
-Proves s = (r : Request) × (request_in s.line ≡ some r) × GivesRefusal fscrypt s.volume r × (w : WouldMisplace s.volume r) × (w.dir.kind ≡ 1) × (0 < w.node.kind)
+Proves s = (r : Request) × (request_in s.line ≡ Some r) × GivesRefusal fscrypt s.volume r × (w : WouldMisplace s.volume r) × (w.dir.kind ≡ 1) × (0 < w.node.kind)
 
 pub record Logged : Type 0 where
   pub sound : (t : Bytes) → ByteList t → Sound (fed_all begun t).volume

@@ -1,62 +1,69 @@
-// The words of a request after its name, and the byte strings that they are.
-ghost use Rattle.std.specs.Prelude.{◌≡◌, ◌≤◌, length, take};
+// The words of a request after its name, taken one after the other, and the byte strings that they are.
+ghost use Rattle.std.specs.Prelude.{◌≤◌, length, IfOk};
 
-use script::{strings, words};
+use crate::answers::Failure;
+use script::{numbers, strings, words};
 
 // The most bytes that a byte string has: more than the ciphers take, so that a text that is too long for them can be tried.
-pub const MOST_BYTES: usize = 4200;
-
-// The words, one after the other. One that is missing is empty: no byte string and no number.
-pub fn first(args: &[u8]) -> &[u8] {
-    words::first_word(args)
-}
-
-pub fn second(args: &[u8]) -> &[u8] {
-    first(words::after_word(args))
-}
-
-pub fn third(args: &[u8]) -> &[u8] {
-    second(words::after_word(args))
-}
-
-pub fn fourth(args: &[u8]) -> &[u8] {
-    third(words::after_word(args))
-}
-
-// Whether a word is missing.
-pub fn is_missing(word: &[u8]) -> bool {
-    word.len() == 0
-}
-
-// Whether a word is a byte string of `least` to `most` bytes.
-pub fn is_between(word: &[u8], least: usize, most: usize) -> bool {
-    if !strings::is_byte_string(word) {
-        return false;
-    }
-    let n = strings::byte_count(word);
-    least <= n && n <= most
-}
-
-// Whether a word is a byte string that a request takes.
-pub fn is_bytes(word: &[u8]) -> bool {
-    is_between(word, 0, MOST_BYTES)
-}
+const MOST_BYTES: usize = 4200;
 
 // Room for a byte string.
-pub fn room() -> [u8; MOST_BYTES]
-    ensures { 4200 ≡ length result }
-{
-    [0u8; MOST_BYTES]
+pub type Room = [u8; MOST_BYTES];
+
+pub fn room() -> Room {
+    [0; MOST_BYTES]
 }
 
-// Lays the bytes that a word stands for over the start of out, and returns how many there are. Where out has no room for all, none are laid.
-pub fn decode(word: &[u8], out: &mut [u8]) -> usize
-    ensures { (result ≤ length out.new) × (result ≡ length (take result out.new)) }
-{
-    let n = strings::byte_count(word);
-    if out.len() < n {
-        return 0;
+// The words that are left.
+#[derive(Clone, Copy)]
+pub struct Words<'a> {
+    rest: &'a [u8],
+}
+
+impl<'a> Words<'a> {
+    pub fn new(args: &'a [u8]) -> Self {
+        Words { rest: args }
     }
-    strings::lay(word, out);
-    n
+
+    // The next word. One that is missing is empty: no byte string and no number.
+    fn word(&mut self) -> &'a [u8] {
+        let (word, rest) = words::split(self.rest);
+        self.rest = rest;
+        word
+    }
+
+    // After the last word that a request takes.
+    pub fn end(mut self) -> Result<(), Failure> {
+        if self.word().is_empty() {
+            Ok(())
+        } else {
+            Err(Failure::Malformed)
+        }
+    }
+
+    pub fn number(&mut self) -> Result<u64, Failure> {
+        numbers::number(self.word()).ok_or(Failure::Malformed)
+    }
+
+    // The bytes that the next word stands for, laid over the start of a room that holds them.
+    pub fn bytes<'b>(&mut self, room: &'b mut [u8]) -> Result<&'b mut [u8], Failure>
+        ensures { IfOk result (λ bytes. length bytes.now ≤ length room.old) }
+    {
+        let word = self.word();
+        if !strings::is_byte_string(word) || room.len() < strings::byte_count(word) {
+            return Err(Failure::Malformed);
+        }
+        strings::lay(word, room);
+        Ok(&mut room[..strings::byte_count(word)])
+    }
+
+    // The N bytes that the next word stands for.
+    pub fn array<const N: usize>(&mut self) -> Result<[u8; N], Failure> {
+        let mut array = [0; N];
+        if self.bytes(&mut array)?.len() == N {
+            Ok(array)
+        } else {
+            Err(Failure::Malformed)
+        }
+    }
 }

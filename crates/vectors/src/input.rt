@@ -1,78 +1,69 @@
 // An input, cut into lines.
-ghost use Rattle.std.specs.Prelude.{◌≤◌, ◌<◌, length};
+ghost use Rattle.std.specs.Prelude.{◌≤◌, length};
 
 use crate::{answers, requests};
 use script::cutting;
 use std::io::{Read, Write};
 
-// Answers a line, the first `used` bytes of `line`. One that fills all of `line` is too long: it may have been cut.
-fn finish(to: &mut impl Write, line: &[u8], used: usize)
-    requires { used ≤ length line.now }
-{
-    if used == line.len() {
-        answers::malformed(to);
-        return;
-    }
-    requests::answer(to, &line[0..used]);
+// A line of 65,536 bytes or more fills it.
+const LINE_ROOM: usize = 65536;
+
+const CHUNK_ROOM: usize = 4096;
+
+// The bytes of a line that have come: the first `used`. No heap: so the length stands beside an array of fixed size.
+#[derive(Drop)]
+struct Line {
+    bytes: [u8; LINE_ROOM],
+    used: usize,
+    ghost fits: { used ≤ 65536 },
 }
 
-// Answers each line that ends in a chunk of the input, and returns how many bytes of the next line there are.
-fn take_chunk(to: &mut impl Write, line: &mut [u8], used: usize, chunk: &[u8]) -> usize
-    requires { (used ≤ length line.old) × (0 < length line.old) }
-    ensures { result ≤ length line.old }
-{
-    let mut n = used;
-    let mut at: usize = 0;
-    while at < chunk.len() {
-        let cut = cutting::take_line(line, n, &chunk[at..]);
-        n = cut.used;
-        if cut.ended {
-            finish(to, line, n);
-            n = 0;
+impl Line {
+    fn new() -> Self {
+        Line {
+            bytes: [0; LINE_ROOM],
+            used: 0,
         }
-        at += cut.taken;
     }
-    n
+
+    // Answers the line, and begins the next. One that fills all its room is too long: it may have been cut.
+    fn finish(&mut self, to: &mut impl Write) {
+        if self.used == LINE_ROOM {
+            answers::failed(to, answers::Failure::Malformed);
+        } else {
+            requests::answer(to, &self.bytes[..self.used]);
+        }
+        self.used = 0;
+    }
+
+    // Answers each line that ends in a chunk of the input.
+    fn take_chunk(&mut self, to: &mut impl Write, chunk: &[u8]) {
+        // `take_line` finds the end of each line, which an iterator over the chunk would find again.
+        let mut rest = chunk;
+        while !rest.is_empty() {
+            let cut = cutting::take_line(&mut self.bytes, self.used, rest);
+            self.used = cut.used;
+            if cut.ended {
+                self.finish(to);
+            }
+            rest = &rest[cut.taken..];
+        }
+    }
 }
 
-// Reads the next bytes of the input into a chunk, and returns how many came. A read that fails counts as the end of the input.
-fn read_chunk(from: &mut impl Read, chunk: &mut [u8]) -> usize
-    ensures { result ≤ length chunk.new }
-{
-    match from.read(chunk) {
-        Ok(n) => n,
-        Err(_) => 0,
-    }
-}
-
-// Answers each line that a newline ends, until no byte comes, and returns how many bytes of a last line are left. A proved loop has to end, and nothing says
-// that the input does: so the loop has as many turns as a number that no run uses up.
-fn answer_whole_lines(
-    from: &mut impl Read,
-    to: &mut impl Write,
-    line: &mut [u8],
-    chunk: &mut [u8],
-) -> usize
-    requires { 0 < length line.old }
-    ensures { result ≤ length line.old }
-{
-    let mut used: usize = 0;
+// Answers every line, until no byte comes; the last may lack its newline. A read that fails counts as the end of the input. A proved loop has to end, and nothing
+// says that the input does: so the loop has as many turns as a number that no run uses up.
+pub fn answer_all(from: &mut impl Read, to: &mut impl Write) {
+    let mut line = Line::new();
+    let mut chunk = [0; CHUNK_ROOM];
     for _ in 0..u64::MAX {
-        let n = read_chunk(from, chunk);
+        let n = from.read(&mut chunk).unwrap_or(0);
         if n == 0 {
-            return used;
+            break;
         }
-        used = take_chunk(to, line, used, &chunk[..n]);
+        line.take_chunk(to, &chunk[..n]);
     }
-    used
-}
-
-// Answers every line; the last may lack its newline.
-pub fn answer_all(from: &mut impl Read, to: &mut impl Write, line: &mut [u8], chunk: &mut [u8])
-    requires { 0 < length line.old }
-{
-    let used = answer_whole_lines(from, to, line, chunk);
-    if 0 < used {
-        finish(to, line, used);
+    if 0 < line.used {
+        line.finish(to);
     }
 }

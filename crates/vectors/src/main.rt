@@ -34,13 +34,6 @@ mod name_calls;
 mod policy_calls;
 mod requests;
 
-// A line of 65,536 bytes or more fills it.
-const LINE_ROOM: usize = 65536;
-
-const CHUNK_ROOM: usize = 4096;
-
 fn main(rt: HostRuntime) {
-    let mut line = [0u8; LINE_ROOM];
-    let mut chunk = [0u8; CHUNK_ROOM];
-    input::answer_all(&mut rt.stdin(), &mut rt.stdout(), &mut line, &mut chunk);
+    input::answer_all(&mut rt.stdin(), &mut rt.stdout());
 }

@@ -1,88 +1,37 @@
 // A line: what it asks for.
-use crate::cipher_calls::{BlockCall, TextCall};
-use crate::name_calls::NameCall;
-use crate::policy_calls::PolicyCall;
+
+use crate::answers::Failure;
+use crate::arguments::Words;
 use crate::{answers, cipher_calls, name_calls, policy_calls};
 use script::words;
 use std::io::Write;
 
-#[derive(Clone, Copy)]
-enum Request {
-    KeyExpansion,
-    OnText(TextCall),
-    OnBlock(BlockCall),
-    OnPolicy(PolicyCall),
-    OnName(NameCall),
-    Unknown,
-}
-
-fn request_named(name: &[u8]) -> Request {
-    if lists::same_bytes(name, b"key-expansion") {
-        return Request::KeyExpansion;
+// What the line asks for, or why it is answered otherwise.
+fn request(to: &mut impl Write, line: &[u8]) -> Result<(), Failure> {
+    let (name, args) = words::split(line);
+    let words = Words::new(args);
+    match name {
+        b"key-expansion" => cipher_calls::on_key(to, words),
+        b"ecb-encrypt" => cipher_calls::on_text(to, ciphers::ecb_encrypt, words),
+        b"cts-encrypt" => cipher_calls::on_text(to, ciphers::cts_encrypt, words),
+        b"cts-decrypt" => cipher_calls::on_text(to, ciphers::cts_decrypt, words),
+        b"xts-encrypt" => cipher_calls::on_block(to, ciphers::xts_encrypt, words),
+        b"xts-decrypt" => cipher_calls::on_block(to, ciphers::xts_decrypt, words),
+        b"policy" => policy_calls::on_policy(to, words),
+        b"context" => policy_calls::on_context(to, words),
+        b"same-policy" => policy_calls::on_policies(to, words),
+        b"check-name" => name_calls::on_check(to, words),
+        b"store-name" => name_calls::on_store(to, words),
+        b"read-name" => name_calls::on_read(to, words),
+        b"encode-name" => name_calls::on_encode(to, words),
+        _ => Err(Failure::Malformed),
     }
-    if lists::same_bytes(name, b"ecb-encrypt") {
-        return Request::OnText(TextCall::EcbEncrypt);
-    }
-    if lists::same_bytes(name, b"cts-encrypt") {
-        return Request::OnText(TextCall::CtsEncrypt);
-    }
-    if lists::same_bytes(name, b"cts-decrypt") {
-        return Request::OnText(TextCall::CtsDecrypt);
-    }
-    if lists::same_bytes(name, b"xts-encrypt") {
-        return Request::OnBlock(BlockCall::XtsEncrypt);
-    }
-    if lists::same_bytes(name, b"xts-decrypt") {
-        return Request::OnBlock(BlockCall::XtsDecrypt);
-    }
-    policy_request(name)
-}
-
-fn policy_request(name: &[u8]) -> Request {
-    if lists::same_bytes(name, b"policy") {
-        return Request::OnPolicy(PolicyCall::ReadPolicy);
-    }
-    if lists::same_bytes(name, b"context") {
-        return Request::OnPolicy(PolicyCall::ReadContext);
-    }
-    if lists::same_bytes(name, b"same-policy") {
-        return Request::OnPolicy(PolicyCall::ComparePolicies);
-    }
-    name_request(name)
-}
-
-fn name_request(name: &[u8]) -> Request {
-    if lists::same_bytes(name, b"check-name") {
-        return Request::OnName(NameCall::CheckName);
-    }
-    if lists::same_bytes(name, b"store-name") {
-        return Request::OnName(NameCall::StoreName);
-    }
-    if lists::same_bytes(name, b"read-name") {
-        return Request::OnName(NameCall::ReadName);
-    }
-    if lists::same_bytes(name, b"encode-name") {
-        return Request::OnName(NameCall::EncodeName);
-    }
-    Request::Unknown
 }
 
 pub fn answer(to: &mut impl Write, line: &[u8]) {
-    if line.len() == 0 {
+    if line.is_empty() || line[0] == b'#' {
         answers::echo(to, line);
-        return;
-    }
-    if line[0] == b'#' {
-        answers::echo(to, line);
-        return;
-    }
-    let args = words::after_word(line);
-    match request_named(words::first_word(line)) {
-        Request::KeyExpansion => cipher_calls::on_key(to, args),
-        Request::OnText(call) => cipher_calls::on_text(to, call, args),
-        Request::OnBlock(call) => cipher_calls::on_block(to, call, args),
-        Request::OnPolicy(call) => policy_calls::answer(to, call, args),
-        Request::OnName(call) => name_calls::answer(to, call, args),
-        Request::Unknown => answers::malformed(to),
+    } else if let Err(why) = request(to, line) {
+        answers::failed(to, why);
     }
 }

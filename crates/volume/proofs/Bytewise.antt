@@ -9,8 +9,7 @@ use Rattle.lists.proofs.ByteStrings.{append_bytes, take_bytes, drop_bytes, zeros
 use Rattle.lists.proofs.Tables.{all_set}
 use Rattle.lists.proofs.Slots.{by_cond, all_same}
 use Rattle.errno.specs.Refusals.{is_fine}
-use Rattle.policy.specs.Policies.{name_key_size, policy_at, policy_check, read_policy}
-use Rattle.policy.specs.declared.PolicyRead.{PolicyRead}
+use Rattle.policy.specs.Policies.{name_key_size, policy_at, policy_check, read_policy, policy_in}
 use Rattle.fscrypt.specs.Cipher.{Cipher, Lawful}
 use Rattle.fscrypt.specs.Names.{encrypted}
 use Rattle.fscrypt.proofs.Padding.{padded_bytes}
@@ -29,6 +28,9 @@ use Rattle.volume.specs.declared.Entry.{Entry}
 use Rattle.volume.specs.declared.Volume.{Volume}
 use Rattle.volume.proofs.Kept.{volume_has, kept_always}
 use Rattle.volume.proofs.Touching.{Touches, asks, adds_key, removes_key, sets_policy, creates, links, renames, exchanges, removes, touches}
+use Rattle.errno.specs.declared.Errno.{Errno}
+use Rattle.policy.specs.declared.Policy.{Policy}
+use Rattle.std.specs.declared.result.Result.{Result}
 
 -- ---- tables
 
@@ -92,10 +94,10 @@ fresh_bytes =
 filled_bytes : (s : Bytes) (n : ℕ) → ByteList s → ByteList (s ++ zeros n)
 filled_bytes s n h = append_bytes s (zeros n) h (zeros_bytes n)
 
-read_bytes : (b : Bytes) → ByteList b → ByteList (read_policy b).policy.descriptor
+read_bytes : (b : Bytes) → ByteList b → ByteList (policy_in (read_policy b)).descriptor
 unfolding read_policy policy_at
 read_bytes b h =
-    by_cond (λ (r : PolicyRead). ByteList r.policy.descriptor) (is_fine (policy_check b)) _ _ (λ e. take_bytes 8 (drop 4 b) (drop_bytes 4 b h)) (λ e. zeros_bytes 8)
+    by_cond (λ (r : Result Policy Errno). ByteList (policy_in r).descriptor) (is_fine (policy_check b)) _ _ (λ e. take_bytes 8 (drop 4 b) (drop_bytes 4 b h)) (λ e. zeros_bytes 8)
 
 child_bytes : (dir : Inode) (kind : ℕ) (x : Bytes) → InodeBytes dir → ByteList x → InodeBytes (child_of dir kind x)
 unfolding child_of

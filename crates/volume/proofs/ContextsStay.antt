@@ -10,7 +10,7 @@ use lib.Seq.{get_or-set_same, get_or-set_other}
 use borrow.Author.Tests.{eq-eqb}
 use Rattle.lists.specs.Bytes.{Bytes}
 use Rattle.lists.proofs.Slots.{by_eq, by_cond, within}
-use Rattle.policy.specs.Policies.{read_policy}
+use Rattle.policy.specs.Policies.{read_policy, policy_in}
 use Rattle.fscrypt.specs.Cipher.{Cipher, Lawful}
 use Rattle.volume.specs.Volume.{no_inode, no_entry, encrypted_inode}
 use Rattle.volume.specs.Request.{Request, AllTyped}
@@ -36,7 +36,7 @@ module _ (C : Cipher) (v : Volume) (s : Sound v) (i : InodeNumber) (t : (inode_a
   is_there z = true≢false (sym t ∙ ap (λ (n : Inode). n.encrypted) (s.free_inodes i.0 (eq-eqb _ 0 z)))
 
   -- a first policy is set on another inode
-  policy_kept : (j : InodeNumber) (p x : Bytes) → (inode_at v j).encrypted ≡ false → Kept v (with_inodes v (set v.inodes j.0 (encrypted_inode 1 (read_policy p).policy x))) i
+  policy_kept : (j : InodeNumber) (p x : Bytes) → (inode_at v j).encrypted ≡ false → Kept v (with_inodes v (set v.inodes j.0 (encrypted_inode 1 (policy_in (read_policy p)) x))) i
   policy_kept j p x f u =
       get_or-set_other v.inodes j.0 i.0 _ no_inode (λ q. true≢false (sym t ∙ ap (λ (n : ℕ). (node_at v n).encrypted) q ∙ f))
 

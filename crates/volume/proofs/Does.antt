@@ -14,9 +14,8 @@ use Rattle.lists.proofs.Tests.{eqb_other}
 use Rattle.lists.proofs.Tables.{all_set}
 use Rattle.lists.proofs.Slots.{by_eq, by_cond}
 use Rattle.lists.proofs.Searches.{some_found}
-use Rattle.errno.specs.Refusals.{number}
-use Rattle.errno.specs.declared.Checked.TheVariants.{Fine}
-use Rattle.policy.specs.Policies.{read_policy}
+use Rattle.errno.specs.Refusals.{fine, number}
+use Rattle.policy.specs.Policies.{read_policy, policy_in}
 use Rattle.policy.specs.Meanings.{PolicyIn}
 use Rattle.fscrypt.specs.Cipher.{Cipher}
 use Rattle.volume.specs.Volume.{key_slots, inode_slots, entry_slots, no_key, no_inode, no_entry, encrypted_inode, key_slot, entry_slot, key_bytes, name_of}
@@ -46,7 +45,7 @@ use Rattle.volume.proofs.DoneWhenLines.{policy_read}
 
 -- what holds of the effect where the check was passed and this was answered
 once_done : (C : Cipher) (v : Volume) (r : Request) (a : Answer) (P : Volume → Type 0) → refusal_in a ≡ none → (step C v r).answer ≡ a
-    → (check C v r ≡ Fine → (effect C v r).answer ≡ a → P (effect C v r).volume) → P (step C v r).volume
+    → (check C v r ≡ fine → (effect C v r).answer ≡ a → P (effect C v r).volume) → P (step C v r).volume
 once_done C v r a P answers h f = step_has C v r (λ (o : Outcome). o.answer ≡ a → P o.volume) (λ e q. absurd (refusal≢none (number e) (ap refusal_in q ∙ answers))) f h
 
 -- a store within a table of n slots is read back
@@ -121,7 +120,7 @@ module _ (C : Cipher) (v : Volume) where
       once_done C v (set_policy i p x) done (λ w. PolicySet v w i p x) refl h
       (λ fine q.
       let c = set_policy_passed v i p x fine in
-      let new = encrypted_inode 1 (read_policy p).policy x in
+      let new = encrypted_inode 1 (policy_in (read_policy p)) x in
       let there = get_or-set_same v.inodes i.0 new no_inode (kind_range v.inodes i.0 c.inode) in
       by_cond (λ (w : Volume). PolicySet v w i p x) (inode_at v i).encrypted v (with_inodes v (set v.inodes i.0 new))
       (λ t. record { equal = λ e. refl; first = λ f. absurd (true≢false (sym t ∙ f)) })
@@ -132,7 +131,7 @@ module _ (C : Cipher) (v : Volume) where
             record {
               directory = ap (λ (n : Inode). n.kind) there;
               encrypted = ap (λ (n : Inode). n.encrypted) there;
-              policy = subst (λ (n : Inode). PolicyIn p n.context.policy) (sym there) ((policy_read p (read_policy p).policy).0 (c.policy, refl)).0;
+              policy = subst (λ (n : Inode). PolicyIn p n.context.policy) (sym there) ((policy_read p (policy_in (read_policy p))).0 (c.policy, refl)).0;
               nonce_given = ap (λ (n : Inode). n.context.nonce) there;
               others = λ j ne. get_or-set_other v.inodes i.0 j new no_inode ne;
               entries = refl;

@@ -9,9 +9,8 @@ use lib.ListN.{length, set}
 use lib.Seq.{get_or-set_same}
 use Rattle.lists.specs.Bytes.{Bytes}
 use Rattle.lists.proofs.Slots.{by_cond, within}
-use Rattle.errno.specs.Refusals.{number}
-use Rattle.errno.specs.declared.Checked.TheVariants.{Fine}
-use Rattle.policy.specs.Policies.{policy_bytes, read_policy}
+use Rattle.errno.specs.Refusals.{fine, number}
+use Rattle.policy.specs.Policies.{policy_bytes, read_policy, policy_in}
 use Rattle.policy.specs.declared.Policy.{Policy}
 use Rattle.policy.proofs.Codec.{read_policy_checked, policy_bytes_read_policy}
 use Rattle.policy.proofs.Meanings.{same_policy_lem}
@@ -40,9 +39,9 @@ use Rattle.volume.proofs.DoneWhenTables.{add_key_when, remove_key_when, set_poli
 
 -- ---- done where the table is passed
 
-done_fine : (C : Cipher) (v : Volume) (r : Request) → Done C v r ↔ (check C v r ≡ Fine)
+done_fine : (C : Cipher) (v : Volume) (r : Request) → Done C v r ↔ (check C v r ≡ fine)
 done_fine C v r = (
-  step_has C v r (λ (o : Outcome). ((n : ℕ) → o.answer ≢ refused n) → check C v r ≡ Fine) (λ e f. absurd (f (number e) refl)) (λ k f. k),
+  step_has C v r (λ (o : Outcome). ((n : ℕ) → o.answer ≢ refused n) → check C v r ≡ fine) (λ e f. absurd (f (number e) refl)) (λ k f. k),
   λ k n h. never_refused C v r n (ap (λ (o : Outcome). o.answer) (sym (done_by C v r k)) ∙ h),
 )
 
@@ -94,7 +93,7 @@ module _ (C : Cipher) where
   policy_set v i p x h =
       let fine = was_fine C v (set_policy i p x) done refl h in
       let c = set_policy_passed v i p x fine in
-      let new = encrypted_inode 1 (read_policy p).policy x in
+      let new = encrypted_inode 1 (policy_in (read_policy p)) x in
       let bytes = policy_bytes_read_policy p (read_policy_checked p ∙ c.policy) in
       let inside = within v.inodes no_inode i.0 (λ z. c.inode (ap (λ (n : Inode). n.kind) z)) in
       subst (λ (w : Volume). asked w i ≡ policy_is p) (ap (λ (o : Outcome). o.volume) (sym (done_by C v (set_policy i p x) fine)))
@@ -169,7 +168,7 @@ module _ (C : Cipher) (v : Volume) (means : Meanings v) where
 -- ---- the statement
 
 module _ (C : Cipher) where
-  fine_when : (v : Volume) → Sound v → (r : Request) → (check C v r ≡ Fine) ↔ Occasion C v r
+  fine_when : (v : Volume) → Sound v → (r : Request) → (check C v r ≡ fine) ↔ Occasion C v r
   unfolding check
   fine_when v s (add_key d k) = add_key_when C v s d k
   fine_when v s (remove_key d) = remove_key_when C v s d

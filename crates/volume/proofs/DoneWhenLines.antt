@@ -5,7 +5,6 @@ use native.Mathlib.Omega.{arith}
 use mathlib.Core.Path.{◌≡◌, refl, sym, ◌∙◌, ap}
 use mathlib.Core.Logic.{◌≢◌, ◌↔◌}
 use mathlib.Core.Bool.{Bool, true, false, cond, not, ◌&&◌, true≢false, false≢true}
-use mathlib.Core.List.{[]}
 use lib.ListN.{get_or}
 use lib.Dec.{eqb, leb, ltb}
 use borrow.Author.Tests.{eqb-false, ne_eqb, leb-false, lt-leb, ltb-true, lt-ltb, ltb-false, le-ltb}
@@ -15,21 +14,22 @@ use Rattle.lists.proofs.Predicates.{not_of_true}
 use Rattle.lists.proofs.Slots.{by_test}
 use Rattle.lists.proofs.Searches.{fails}
 use Rattle.errno.proofs.ChainMeanings.{is_fine_means}
-use Rattle.errno.specs.Refusals.{is_fine}
+use Rattle.errno.specs.Refusals.{Checked, fine, refuse, is_fine, check_of}
 use Rattle.errno.specs.declared.Errno.TheVariants.{EUCLEAN}
-use Rattle.errno.specs.declared.Checked.{Checked}
-use Rattle.errno.specs.declared.Checked.TheVariants.{Fine, Refused}
-use Rattle.policy.specs.Policies.{policy_at, policy_check, read_policy, policy_answer, answered, taken}
+use Rattle.policy.specs.Policies.{policy_at, policy_check, read_policy, policy_answer, answered, taken, policy_in}
 use Rattle.policy.specs.Meanings.{ValidPolicy, PolicyIn}
 use Rattle.policy.specs.declared.Policy.{Policy}
 use Rattle.policy.proofs.Meanings.{policy_taken_lem}
 use Rattle.fscrypt.specs.Names.{before_nul, padding_check, packed, read_padded}
-use Rattle.fscrypt.specs.declared.NameRead.{NameRead}
 use Rattle.volume.specs.Checks.{is_policy_refused}
 use Rattle.volume.specs.Sound.{MayHold}
 use Rattle.volume.specs.Meanings.{Least}
 use Rattle.volume.specs.declared.Inode.{Inode}
 use Rattle.volume.proofs.SoundPolicy.{may_hold, lacks_policy}
+use Rattle.std.specs.declared.result.Result.TheVariants.{Ok, Err}
+use Rattle.errno.specs.declared.Errno.{Errno}
+use Rattle.fscrypt.specs.declared.Name.{Name}
+use Rattle.std.specs.declared.result.Result.{Result}
 
 -- ---- tests that fail
 
@@ -52,7 +52,7 @@ after true u = (λ h e. h, λ f. f refl)
 after false u = (λ h e. absurd (false≢true e), λ f. refl)
 
 -- one of two tables
-pub choice : (t : Bool) (a b : Checked) → (cond t a b ≡ Fine) ↔ ((t ≡ true → a ≡ Fine) × (t ≡ false → b ≡ Fine))
+pub choice : (t : Bool) (a b : Checked) → (cond t a b ≡ fine) ↔ ((t ≡ true → a ≡ fine) × (t ≡ false → b ≡ fine))
 choice true a b = (λ h. (λ e. h, λ e. absurd (true≢false e)), λ p. p.0 refl)
 choice false a b = (λ h. (λ e. absurd (false≢true e), λ e. h), λ p. p.1 refl)
 
@@ -75,29 +75,29 @@ may_hold_is dir node = (
 )
 
 -- bytes that pass are those of a valid policy, which is the one that is read
-pub policy_read : (b : Bytes) (p : Policy) → ((policy_check b ≡ Fine) × ((read_policy b).policy ≡ p)) ↔ (PolicyIn b p × ValidPolicy p)
+pub policy_read : (b : Bytes) (p : Policy) → ((policy_check b ≡ fine) × (policy_in (read_policy b) ≡ p)) ↔ (PolicyIn b p × ValidPolicy p)
 unfolding policy_answer read_policy
 policy_read b p = (
   λ h. (policy_taken_lem b p).0 ((answer (policy_check b) (policy_at (get_or b 0 0) b)).1 (h.0, sym (value h.0) ∙ h.1)),
   λ w. let a = (answer (policy_check b) (policy_at (get_or b 0 0) b)).0 ((policy_taken_lem b p).1 w) in (a.0, value a.0 ∙ a.1),
 )
   where
-    value : policy_check b ≡ Fine → (read_policy b).policy ≡ policy_at (get_or b 0 0) b
+    value : policy_check b ≡ fine → policy_in (read_policy b) ≡ policy_at (get_or b 0 0) b
     value h = rw h
 
-    answer : (c : Checked) (x : Policy) → (answered c x ≡ taken p) ↔ ((c ≡ Fine) × (x ≡ p))
-    answer Fine x = (λ h. (refl, cc), λ q. ap taken q.1)
-    answer (Refused e) x = (λ h. absurd (let z : ◌≡◌ {A = ℕ} 0 1 = cc in omega arith), λ q. absurd (let r = q.0 in let z : ◌≡◌ {A = ℕ} 0 1 = cc in omega arith))
+    answer : (c : Checked) (x : Policy) → (answered c x ≡ taken p) ↔ ((c ≡ fine) × (x ≡ p))
+    answer (Ok _) x = (λ h. (refl, cc), λ q. ap taken q.1)
+    answer (Err e) x = (λ h. absurd (let z : ◌≡◌ {A = ℕ} 0 1 = cc in omega arith), λ q. absurd (let r = q.0 in let z : ◌≡◌ {A = ℕ} 0 1 = cc in omega arith))
 
 -- ---- names
 
 -- what was read passed where the padding did
-pub name_read : (flags : ℕ) (b : Bytes) → (is_fine (read_padded flags b).checked ≡ true) ↔ (padding_check flags b ≡ Fine)
+pub name_read : (flags : ℕ) (b : Bytes) → (is_fine (check_of (read_padded flags b)) ≡ true) ↔ (padding_check flags b ≡ fine)
 unfolding read_padded
 name_read flags b = go (padding_check flags b)
   where
     go : (c : Checked)
-        → (is_fine (cond {A = NameRead} (is_fine c) (record { checked = Fine; name = packed (before_nul b) }) (record { checked = Refused EUCLEAN; name = packed [] })).checked ≡ true)
-        ↔ (c ≡ Fine)
-    go Fine = is_fine_means Fine
-    go (Refused e) = is_fine_means (Refused e)
+        → (is_fine (check_of (cond {A = Result Name Errno} (is_fine c) (Ok (packed (before_nul b))) (Err EUCLEAN))) ≡ true)
+        ↔ (c ≡ fine)
+    go (Ok _) = is_fine_means fine
+    go (Err e) = is_fine_means (refuse e)

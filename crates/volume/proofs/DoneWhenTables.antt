@@ -8,8 +8,7 @@ use lib.ListN.{length}
 use lib.Dec.{leb, ltb}
 use borrow.Author.Tests.{eq-eqb}
 use Rattle.lists.specs.Bytes.{Bytes}
-use Rattle.errno.specs.declared.Checked.TheVariants.{Fine}
-use Rattle.policy.specs.Policies.{read_policy}
+use Rattle.policy.specs.Policies.{read_policy, policy_in}
 use Rattle.policy.proofs.Meanings.{same_policy_lem}
 use Rattle.fscrypt.specs.Cipher.{Cipher}
 use Rattle.fscrypt.specs.Names.{name_check}
@@ -33,6 +32,7 @@ use Rattle.lists.proofs.Searches.{equal, fails}
 use Rattle.volume.proofs.PlainMeanings.{plain_meanings}
 use Rattle.volume.proofs.Meanings.{meanings}
 use Rattle.volume.proofs.DoneWhenLines.{negated, differ, at_least, found, after, choice, room, may_hold_is, policy_read, name_read}
+use Rattle.errno.specs.Refusals.{fine}
 
 module _ (C : Cipher) (v : Volume) (s : Sound v) where
   means : Meanings v
@@ -70,10 +70,10 @@ module _ (C : Cipher) (v : Volume) (s : Sound v) where
   entry_room : (leb entry_slots (free_entry v) ≡ false) ↔ ((e : ℕ) × (e < entry_slots) × EntryFree v e)
   entry_room = room entry_slots (free_entry v) means.lowest_entry means.entries_full
 
-  plain_name : (n : Bytes) → (name_check n ≡ Fine) ↔ PlainName n
+  plain_name : (n : Bytes) → (name_check n ≡ fine) ↔ PlainName n
   plain_name = name_check_fine
 
-  directory : (p : InodeNumber) → (directory_check v p ≡ Fine) ↔ ((inode_at v p).kind ≡ 1)
+  directory : (p : InodeNumber) → (directory_check v p ≡ fine) ↔ ((inode_at v p).kind ≡ 1)
   directory = means.parent_fine
 
   not_taken : (p : InodeNumber) (n : Bytes) → (is_taken v p n ≡ false) ↔ (NameTaken v p n → ⊥)
@@ -106,7 +106,7 @@ module _ (C : Cipher) (v : Volume) (s : Sound v) where
 
   -- ---- keys
 
-  pub add_key_when : (d key : Bytes) → (add_key_check v d (length key) ≡ Fine) ↔ AddKeyDone v d key
+  pub add_key_when : (d key : Bytes) → (add_key_check v d (length key) ≡ fine) ↔ AddKeyDone v d key
   unfolding add_key_check
   add_key_when d key = (
     λ h.
@@ -115,21 +115,21 @@ module _ (C : Cipher) (v : Volume) (s : Sound v) where
     λ w. simp (lines, key_room) (w.size, (w.new, (w.room, refl))),
   )
 
-  pub remove_key_when : (d : Bytes) → (remove_key_check v d ≡ Fine) ↔ KeyHeld v d
+  pub remove_key_when : (d : Bytes) → (remove_key_check v d ≡ fine) ↔ KeyHeld v d
   unfolding remove_key_check
   remove_key_when d = (λ h. (simp lines at h).0, λ w. simp lines (w, refl))
 
   -- ---- policies
 
-  pub set_policy_when : (i : InodeNumber) (b x : Bytes) → (set_policy_check v i b x ≡ Fine) ↔ SetPolicyDone v i b x
+  pub set_policy_when : (i : InodeNumber) (b x : Bytes) → (set_policy_check v i b x ≡ fine) ↔ SetPolicyDone v i b x
   unfolding set_policy_check nonce_check
   set_policy_when i b x = (
     λ h.
         let (inode, (policy, (equal, first))) = simp lines at h in
-        let w = (policy_read b (read_policy b).policy).0 (policy, refl) in
+        let w = (policy_read b (policy_in (read_policy b))).0 (policy, refl) in
         record {
           inode = inode;
-          policy = (read_policy b).policy;
+          policy = policy_in (read_policy b);
           read = w.0;
           valid = w.1;
           equal = λ e. (equal e).0;
@@ -145,7 +145,7 @@ module _ (C : Cipher) (v : Volume) (s : Sound v) where
   )
 
   -- a free inode has no context
-  pub get_policy_when : (i : InodeNumber) → (get_policy_check v i ≡ Fine) ↔ ((inode_at v i).encrypted ≡ true)
+  pub get_policy_when : (i : InodeNumber) → (get_policy_check v i ≡ fine) ↔ ((inode_at v i).encrypted ≡ true)
   unfolding get_policy_check
   get_policy_when i = (
     λ h. let (inode, (context, end)) = simp lines at h in context,
@@ -154,7 +154,7 @@ module _ (C : Cipher) (v : Volume) (s : Sound v) where
 
   -- ---- names
 
-  pub create_when : (p : InodeNumber) (k : ℕ) (n x : Bytes) → (create_check C v p k n x ≡ Fine) ↔ CreateDone C v p k n x
+  pub create_when : (p : InodeNumber) (k : ℕ) (n x : Bytes) → (create_check C v p k n x ≡ fine) ↔ CreateDone C v p k n x
   unfolding create_check nonce_check
   create_when p k n x = (
     λ h.
@@ -171,7 +171,7 @@ module _ (C : Cipher) (v : Volume) (s : Sound v) where
         (w.name.plain, (w.known_kind, (w.name.directory, (w.name.key, (w.name.new, ((λ q. (w.new_nonce q.0 q.1, refl), λ f. refl), (w.inode_room, (w.entry_room, refl)))))))),
   )
 
-  pub link_when : (i p : InodeNumber) (n : Bytes) → (link_check C v i p n ≡ Fine) ↔ LinkDone C v i p n
+  pub link_when : (i p : InodeNumber) (n : Bytes) → (link_check C v i p n ≡ fine) ↔ LinkDone C v i p n
   unfolding link_check
   link_when i p n = (
     λ h.
@@ -180,7 +180,7 @@ module _ (C : Cipher) (v : Volume) (s : Sound v) where
     λ w. simp (lines, entry_room) (w.name.plain, (w.inode, (w.name.directory, (w.no_directory, (w.name.key, (w.policy, (w.name.new, (w.room, refl)))))))),
   )
 
-  pub rename_when : (e : EntryNumber) (p : InodeNumber) (n : Bytes) → (rename_check C v e p n ≡ Fine) ↔ RenameDone C v e p n
+  pub rename_when : (e : EntryNumber) (p : InodeNumber) (n : Bytes) → (rename_check C v e p n ≡ fine) ↔ RenameDone C v e p n
   unfolding rename_check
   rename_when e p n = (
     λ h.
@@ -198,7 +198,7 @@ module _ (C : Cipher) (v : Volume) (s : Sound v) where
   )
 
   -- an entry in use stands in a directory
-  pub exchange_when : (a b : EntryNumber) → (exchange_check v a b ≡ Fine) ↔ ExchangeDone v a b
+  pub exchange_when : (a b : EntryNumber) → (exchange_check v a b ≡ fine) ↔ ExchangeDone v a b
   unfolding exchange_check
   exchange_when a b = (
     λ h.
@@ -238,14 +238,14 @@ module _ (C : Cipher) (v : Volume) (s : Sound v) where
       parent : (e : EntryNumber) → (entry_at v e).len ≢ 0 → (dir_of v e.0).kind ≡ 1
       parent e u = s.parents e.0 ((differ _ _).1 u)
 
-  pub remove_when : (e : EntryNumber) → (remove_check v e ≡ Fine) ↔ RemoveDone v e
+  pub remove_when : (e : EntryNumber) → (remove_check v e ≡ fine) ↔ RemoveDone v e
   unfolding remove_check
   remove_when e = (
     λ h. let (entry, (empty, end)) = simp lines at h in record { entry = entry; empty = empty },
     λ w. simp lines (w.entry, (w.empty, refl)),
   )
 
-  pub find_when : (p : InodeNumber) (n : Bytes) → (find_check C v p n ≡ Fine) ↔ FindDone C v p n
+  pub find_when : (p : InodeNumber) (n : Bytes) → (find_check C v p n ≡ fine) ↔ FindDone C v p n
   unfolding find_check
   find_when p n = (
     λ h.
@@ -254,7 +254,7 @@ module _ (C : Cipher) (v : Volume) (s : Sound v) where
     λ w. simp lines (w.plain, (w.directory, (w.key, (w.there, refl)))),
   )
 
-  pub show_when : (e : EntryNumber) (b : Bytes) → (show_check C v e (length b) ≡ Fine) ↔ ShowDone C v e b
+  pub show_when : (e : EntryNumber) (b : Bytes) → (show_check C v e (length b) ≡ fine) ↔ ShowDone C v e b
   unfolding show_check
   show_when e b = (
     λ h.
@@ -265,7 +265,7 @@ module _ (C : Cipher) (v : Volume) (s : Sound v) where
 
   -- ---- blocks
 
-  pub block_when : (i : InodeNumber) (b : Bytes) → (block_check v i (length b) ≡ Fine) ↔ BlockDone v i b
+  pub block_when : (i : InodeNumber) (b : Bytes) → (block_check v i (length b) ≡ fine) ↔ BlockDone v i b
   unfolding block_check
   block_when i b = (
     λ h.

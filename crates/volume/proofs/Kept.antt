@@ -8,45 +8,44 @@ use mathlib.Core.Option.{Option, some, none}
 use mathlib.Core.List.Memᴰ
 use mathlib.Core.List.{List, [], ◌∷◌, Memᴰ}
 use Rattle.lists.specs.Bytes.{Bytes}
-use Rattle.errno.specs.Refusals.{number}
+use Rattle.errno.specs.Refusals.{Checked, fine, number}
 use Rattle.errno.specs.declared.Errno.{Errno}
-use Rattle.errno.specs.declared.Checked.{Checked}
-use Rattle.errno.specs.declared.Checked.TheVariants.{Fine, Refused}
 use Rattle.fscrypt.specs.Cipher.{Cipher}
 use Rattle.volume.specs.Volume.{fresh}
 use Rattle.volume.specs.Request.{Request, Answer, refused, refusal_in, Outcome, outcome, Typed, AllTyped}
 use Rattle.volume.specs.Step.{lent, check, effect, settle, step}
 use Rattle.volume.specs.Run.{Moment, moment_of, run_from, run}
 use Rattle.volume.specs.declared.Volume.{Volume}
+use Rattle.std.specs.declared.result.Result.TheVariants.{Ok, Err}
 
 -- ---- one request
 
 pub refusal≢none : (n : ℕ) → ◌≢◌ {A = Option ℕ} (some n) none
 refusal≢none n h = let z : ◌≡◌ {A = ℕ} 0 1 = cc in omega arith
 
-settle_has : (P : Outcome → Type 0) (v : Volume) (b : Bytes) (k : Checked) (o : Outcome) → ((e : Errno) → P (outcome (refused (number e)) b v)) → (k ≡ Fine → P o)
+settle_has : (P : Outcome → Type 0) (v : Volume) (b : Bytes) (k : Checked) (o : Outcome) → ((e : Errno) → P (outcome (refused (number e)) b v)) → (k ≡ fine → P o)
     → P (settle v b k o)
 unfolding settle
-settle_has P v b (Refused e) o r f = r e
-settle_has P v b Fine o r f = f refl
+settle_has P v b (Err e) o r f = r e
+settle_has P v b (Ok _) o r f = f refl
 
 module _ (C : Cipher) (v : Volume) (r : Request) where
   -- what holds of a refusal, and of the effect where the check passed
-  pub step_has : (P : Outcome → Type 0) → ((e : Errno) → P (outcome (refused (number e)) (lent r) v)) → (check C v r ≡ Fine → P (effect C v r)) → P (step C v r)
+  pub step_has : (P : Outcome → Type 0) → ((e : Errno) → P (outcome (refused (number e)) (lent r) v)) → (check C v r ≡ fine → P (effect C v r)) → P (step C v r)
   unfolding step
   step_has P = settle_has P v (lent r) (check C v r) (effect C v r)
 
-  pub volume_has : (P : Volume → Type 0) → P v → (check C v r ≡ Fine → P (effect C v r).volume) → P (step C v r).volume
+  pub volume_has : (P : Volume → Type 0) → P v → (check C v r ≡ fine → P (effect C v r).volume) → P (step C v r).volume
   volume_has P p f = step_has (λ (o : Outcome). P o.volume) (λ e. p) f
 
-  pub done_by : check C v r ≡ Fine → step C v r ≡ effect C v r
+  pub done_by : check C v r ≡ fine → step C v r ≡ effect C v r
   unfolding step settle
   done_by h = ap (λ (k : Checked). settle v (lent r) k (effect C v r)) h
 
   -- a request that was not refused passed its checks
   module _ (a : Answer) (no : refusal_in a ≡ none) (h : (step C v r).answer ≡ a) where
-    pub was_fine : check C v r ≡ Fine
-    was_fine = step_has (λ (o : Outcome). o.answer ≡ a → check C v r ≡ Fine) (λ e q. absurd (refusal≢none (number e) (ap refusal_in q ∙ no))) (λ k q. k) h
+    pub was_fine : check C v r ≡ fine
+    was_fine = step_has (λ (o : Outcome). o.answer ≡ a → check C v r ≡ fine) (λ e q. absurd (refusal≢none (number e) (ap refusal_in q ∙ no))) (λ k q. k) h
 
     pub was_done : step C v r ≡ effect C v r
     was_done = done_by was_fine

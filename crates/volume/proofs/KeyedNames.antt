@@ -13,9 +13,8 @@ use lib.Dec.{ltb}
 use Rattle.lists.specs.Bytes.{Bytes, ByteList}
 use Rattle.lists.proofs.Tests.{and_left, and_right, if_false}
 use Rattle.lists.proofs.Slots.{by_test}
-use Rattle.errno.specs.Refusals.{number, ◌⇒◌, ◌>>◌}
+use Rattle.errno.specs.Refusals.{fine, number, ◌⇒◌, ◌>>◌}
 use Rattle.errno.specs.declared.Errno.TheVariants.{ENOENT, ERANGE, EUCLEAN}
-use Rattle.errno.specs.declared.Checked.TheVariants.{Fine}
 use Rattle.policy.specs.Policies.{is_master_key_size, name_key_size}
 use Rattle.fscrypt.specs.Cipher.{Cipher, Lawful, fscrypt}
 use Rattle.fscrypt.specs.Names.{name_check, encrypted}
@@ -64,7 +63,7 @@ module _ (C : Cipher) where
   record Named (given : Option Bytes) (key : Bytes) (dir : Inode) (s : Bytes) : Type 0 where
     name : Bytes
     is_given : given ≡ some name
-    is_plain : name_check name ≡ Fine
+    is_plain : name_check name ≡ fine
     bytes : ByteList name
     is_stored : s ≡ stored_under key dir name
     is_sized : dir.encrypted ≡ true → is_master_key_size dir.context.policy (length key) ≡ true
@@ -151,7 +150,7 @@ module _ (C : Cipher) where
           unreadable_wrong p.0 p.1
         where
           tests : (a c d : Bool) (s : ShownEntry) (b' : Bytes)
-              → (settle v b (◌>>◌ (a ⇒ ERANGE) (◌>>◌ (c ⇒ ENOENT) (◌>>◌ (d ⇒ EUCLEAN) Fine))) (outcome (shown s) b' v)).answer ≡ refused (number EUCLEAN)
+              → (settle v b (◌>>◌ (a ⇒ ERANGE) (◌>>◌ (c ⇒ ENOENT) (◌>>◌ (d ⇒ EUCLEAN) fine))) (outcome (shown s) b' v)).answer ≡ refused (number EUCLEAN)
               → (c ≡ false) × (d ≡ true)
           tests true c d s b' h = let z : number ERANGE ≡ number EUCLEAN = cc in absurd (omega (arith, z))
           tests false true d s b' h = let z : number ENOENT ≡ number EUCLEAN = cc in absurd (omega (arith, z))

@@ -13,10 +13,8 @@ use Rattle.lists.proofs.Tables.{first_at_ends}
 use Rattle.lists.proofs.Slots.{first_at_found}
 use Rattle.lists.proofs.ByteMeanings.{same_means}
 use Rattle.lists.proofs.Searches.{equal, fails, denied, both, least_found, none_found, some_found}
-use Rattle.errno.specs.Refusals.{◌⇒◌, ◌>>◌}
+use Rattle.errno.specs.Refusals.{Checked, fine, refuse, ◌⇒◌, ◌>>◌}
 use Rattle.errno.specs.declared.Errno.TheVariants.{ENOENT, ENOTDIR}
-use Rattle.errno.specs.declared.Checked.{Checked}
-use Rattle.errno.specs.declared.Checked.TheVariants.{Fine, Refused}
 use Rattle.policy.specs.Meanings.{MasterKeySize}
 use Rattle.policy.proofs.Meanings.{master_key_size, master_key_some}
 use Rattle.volume.specs.Volume.{key_slots, inode_slots, entry_slots, no_key, no_inode, no_entry, name_of}
@@ -37,21 +35,21 @@ use Rattle.volume.proofs.Below.{under_itself, reached}
 -- ---- what a table or a choice comes to, as tests
 
 abbrev parent_table : Bool → Bool → Checked
-parent_table free dir = ◌>>◌ (free ⇒ ENOENT) (◌>>◌ (not dir ⇒ ENOTDIR) Fine)
+parent_table free dir = ◌>>◌ (free ⇒ ENOENT) (◌>>◌ (not dir ⇒ ENOTDIR) fine)
 
-table_fine : (a b : Bool) → (parent_table a b ≡ Fine) ↔ ((a ≡ false) × (b ≡ true))
+table_fine : (a b : Bool) → (parent_table a b ≡ fine) ↔ ((a ≡ false) × (b ≡ true))
 unfolding ◌>>◌ ◌⇒◌
 table_fine true b = (λ h. absurd (let z : ◌≡◌ {A = ℕ} 0 1 = cc in omega arith), λ r. absurd (true≢false r.0))
 table_fine false true = (λ h. (refl, refl), λ r. refl)
 table_fine false false = (λ h. absurd (let z : ◌≡◌ {A = ℕ} 0 1 = cc in omega arith), λ r. absurd (false≢true r.1))
 
-table_missing : (a b : Bool) → (parent_table a b ≡ Refused ENOENT) ↔ (a ≡ true)
+table_missing : (a b : Bool) → (parent_table a b ≡ refuse ENOENT) ↔ (a ≡ true)
 unfolding ◌>>◌ ◌⇒◌
 table_missing true b = (λ h. refl, λ e. refl)
 table_missing false true = (λ h. absurd (let z : ◌≡◌ {A = ℕ} 0 1 = cc in omega arith), λ e. absurd (false≢true e))
 table_missing false false = (λ h. absurd (let z : ◌≡◌ {A = ℕ} 0 1 = cc in omega arith), λ e. absurd (false≢true e))
 
-table_other : (a b : Bool) → (parent_table a b ≡ Refused ENOTDIR) ↔ ((a ≡ false) × (b ≡ false))
+table_other : (a b : Bool) → (parent_table a b ≡ refuse ENOTDIR) ↔ ((a ≡ false) × (b ≡ false))
 unfolding ◌>>◌ ◌⇒◌
 table_other true b = (λ h. absurd (let z : ◌≡◌ {A = ℕ} 0 1 = cc in omega arith), λ r. absurd (true≢false r.0))
 table_other false true = (λ h. absurd (let z : ◌≡◌ {A = ℕ} 0 1 = cc in omega arith), λ r. absurd (true≢false r.1))
@@ -116,17 +114,17 @@ module _ (v : Volume) where
 
   -- ---- the parent of a request
 
-  parent_fine : (p : InodeNumber) → (directory_check v p ≡ Fine) ↔ ((inode_at v p).kind ≡ 1)
+  parent_fine : (p : InodeNumber) → (directory_check v p ≡ fine) ↔ ((inode_at v p).kind ≡ 1)
   unfolding directory_check
   parent_fine p =
       Iff.trans (table_fine (is_free (inode_at v p)) (is_directory (inode_at v p)))
       (λ r. (equal (inode_at v p).kind 1).0 r.1, λ e. (ap (λ (n : ℕ). eqb n 0) e, (equal (inode_at v p).kind 1).1 e))
 
-  parent_missing : (p : InodeNumber) → (directory_check v p ≡ Refused ENOENT) ↔ InodeFree v p.0
+  parent_missing : (p : InodeNumber) → (directory_check v p ≡ refuse ENOENT) ↔ InodeFree v p.0
   unfolding directory_check
   parent_missing p = Iff.trans (table_missing (is_free (inode_at v p)) (is_directory (inode_at v p))) (equal (inode_at v p).kind 0)
 
-  parent_no_directory : (p : InodeNumber) → (directory_check v p ≡ Refused ENOTDIR) ↔ (((inode_at v p).kind ≢ 0) × ((inode_at v p).kind ≢ 1))
+  parent_no_directory : (p : InodeNumber) → (directory_check v p ≡ refuse ENOTDIR) ↔ (((inode_at v p).kind ≢ 0) × ((inode_at v p).kind ≢ 1))
   unfolding directory_check
   parent_no_directory p =
       Iff.trans (table_other (is_free (inode_at v p)) (is_directory (inode_at v p)))

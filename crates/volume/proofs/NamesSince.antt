@@ -11,7 +11,6 @@ use lib.Seq.{get_or-set_same, get_or-set_other}
 use Rattle.lists.specs.Bytes.{Bytes, ByteList}
 use Rattle.lists.proofs.Tests.{if_true, if_false, eqb_self, eqb_other}
 use Rattle.lists.proofs.Slots.{by_eq, by_cond}
-use Rattle.errno.specs.declared.Checked.TheVariants.{Fine}
 use Rattle.fscrypt.specs.Cipher.{Cipher, Lawful}
 use Rattle.fscrypt.specs.Names.{name_check}
 use Rattle.volume.specs.Volume.{no_inode, no_entry, name_of, entry_slot}
@@ -38,11 +37,12 @@ use Rattle.volume.proofs.SoundExchange.{look}
 use Rattle.volume.proofs.SoundRemove.{left_other, left_same}
 use Rattle.volume.proofs.Soundness.{sound_inv}
 use Rattle.volume.proofs.StoredNames.{stored_same, held_same}
+use Rattle.errno.specs.Refusals.{fine}
 
 -- of an entry e in use on w, the volume that a request left of v, which gave e the name o if any
 pub data Since (C : Cipher) (v w : Volume) (o : Option Bytes) (e : ℕ) : Type 0 where
   stayed : o ≡ none → Used v e → name_of (slot_at w e) ≡ name_of (slot_at v e) → dir_of w e ≡ dir_of v e → Since C v w o e
-  gained : (n : Bytes) → o ≡ some n → name_check n ≡ Fine → ByteList n → name_of (slot_at w e) ≡ stored C w (dir_of w e) n → lacks_key w (dir_of w e) ≡ false → Since C v w o e
+  gained : (n : Bytes) → o ≡ some n → name_check n ≡ fine → ByteList n → name_of (slot_at w e) ≡ stored C w (dir_of w e) n → lacks_key w (dir_of w e) ≡ false → Since C v w o e
 
 module _ (C : Cipher) (law : Lawful C) (v : Volume) (s : Sound v) where
   -- what is claimed of each request that is done
@@ -51,7 +51,7 @@ module _ (C : Cipher) (law : Lawful C) (v : Volume) (s : Sound v) where
 
   -- ---- an entry is stored
 
-  module _ (is : List Inode) (e : ℕ) (p i : InodeNumber) (n : Bytes) (room : e < length v.entries) (good : name_check n ≡ Fine) (bytes : ByteList n) (held : lacks_key v (inode_at v p) ≡ false)
+  module _ (is : List Inode) (e : ℕ) (p i : InodeNumber) (n : Bytes) (room : e < length v.entries) (good : name_check n ≡ fine) (bytes : ByteList n) (held : lacks_key v (inode_at v p) ≡ false)
       (there : node_in is p.0 ≡ inode_at v p) (others : (j : ℕ) → Used v j → node_in is (slot_at v j).parent.0 ≡ dir_of v j) where
     abbrev new : Entry
     new = entry_slot p i (stored C v (inode_at v p) n)
@@ -81,7 +81,7 @@ module _ (C : Cipher) (law : Lawful C) (v : Volume) (s : Sound v) where
         dir : dir_of w e ≡ inode_at v p
         dir = ap (λ (x : Entry). node_in is x.parent.0) here ∙ there
 
-  create_since : (p : InodeNumber) (kind : ℕ) (n x : Bytes) → ByteList n → create_check C v p kind n x ≡ Fine → Leaves (create p kind n x)
+  create_since : (p : InodeNumber) (kind : ℕ) (n x : Bytes) → ByteList n → create_check C v p kind n x ≡ fine → Leaves (create p kind n x)
   unfolding effect named_by naming named
   create_since p kind n x bytes h =
       let c = create_passed C v p kind n x h in
@@ -91,13 +91,13 @@ module _ (C : Cipher) (law : Lawful C) (v : Volume) (s : Sound v) where
       other : (j : ℕ) → (node_at v j).kind ≡ 1 → node_in (set v.inodes (free_inode v) (child_of (inode_at v p) kind x)) j ≡ node_at v j
       other j k = free_kept v (child_of (inode_at v p) kind x) j (one≢zero k)
 
-  link_since : (i p : InodeNumber) (n : Bytes) → ByteList n → link_check C v i p n ≡ Fine → Leaves (link i p n)
+  link_since : (i p : InodeNumber) (n : Bytes) → ByteList n → link_check C v i p n ≡ fine → Leaves (link i p n)
   unfolding effect named_by naming named
   link_since i p n bytes h =
       let c = link_passed C v i p n h in
       stored_since v.inodes (free_entry v) p i n (omega (arith, c.entry_room, s.entry_slots_lem)) c.name bytes c.key refl (λ j u. refl)
 
-  rename_since : (e : EntryNumber) (p : InodeNumber) (n : Bytes) → ByteList n → rename_check C v e p n ≡ Fine → Leaves (rename e p n)
+  rename_since : (e : EntryNumber) (p : InodeNumber) (n : Bytes) → ByteList n → rename_check C v e p n ≡ fine → Leaves (rename e p n)
   unfolding effect named_by naming named
   rename_since e p n bytes h =
       let c = rename_passed C v e p n h in
@@ -110,7 +110,7 @@ module _ (C : Cipher) (law : Lawful C) (v : Volume) (s : Sound v) where
       stayed (unnamed r (effect C v r).answer j unnaming) (subst (λ (w : Volume). Used w j) leaves u) (ap (λ (w : Volume). name_of (slot_at w j)) leaves)
       (ap (λ (w : Volume). dir_of w j) leaves)
 
-  set_policy_since : (i : InodeNumber) (p x : Bytes) → set_policy_check v i p x ≡ Fine → Leaves (set_policy i p x)
+  set_policy_since : (i : InodeNumber) (p x : Bytes) → set_policy_check v i p x ≡ fine → Leaves (set_policy i p x)
   unfolding effect named_by naming named
   set_policy_since i p x h =
       let c = set_policy_passed v i p x h in
@@ -119,14 +119,14 @@ module _ (C : Cipher) (law : Lawful C) (v : Volume) (s : Sound v) where
       (λ t j u.
       stayed refl u refl (get_or-set_other v.inodes i.0 (slot_at v j).parent.0 _ no_inode (none_in v s.entry_slots_lem i (c.first t).empty j u)))
 
-  exchange_since : (a b : EntryNumber) → exchange_check v a b ≡ Fine → Leaves (exchange a b)
+  exchange_since : (a b : EntryNumber) → exchange_check v a b ≡ fine → Leaves (exchange a b)
   unfolding effect named_by naming named
   exchange_since a b h j u =
       let c = exchange_passed v a b h in
       let q = look v (sound_inv v s) a.0 b.0 c.one c.other j in
       stayed refl (ap is_vacant (sym q) ∙ u) (ap name_of q) (ap (λ (x : Entry). inode_at v x.parent) q)
 
-  remove_since : (e : EntryNumber) → remove_check v e ≡ Fine → Leaves (remove e)
+  remove_since : (e : EntryNumber) → remove_check v e ≡ fine → Leaves (remove e)
   unfolding effect without_unheld named_by naming named
   remove_since e h j u =
       let c = remove_passed v e h in
@@ -140,7 +140,7 @@ module _ (C : Cipher) (law : Lawful C) (v : Volume) (s : Sound v) where
       ap (λ (x : Entry). node_in (set v.inodes gone.0 no_inode) x.parent.0) q
       ∙ get_or-set_other v.inodes gone.0 (slot_at v j).parent.0 no_inode no_inode (none_in v s.entry_slots_lem gone c.empty j used)))
 
-  since : {r : Request} → Touches r → Typed r → check C v r ≡ Fine → Leaves r
+  since : {r : Request} → Touches r → Typed r → check C v r ≡ fine → Leaves r
   unfolding check effect named_by naming named
   since (asks {r} answers leaves unnaming) t h = asked_since r (leaves C v) unnaming
   since (adds_key d k) t h = λ j u. stayed refl u refl refl

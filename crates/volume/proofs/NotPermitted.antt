@@ -7,7 +7,6 @@ use borrow.Author.Tests.{eq-eqb}
 use Rattle.lists.specs.Bytes.{Bytes}
 use Rattle.lists.proofs.Tests.{eqb-true}
 use Rattle.errno.specs.declared.Errno.TheVariants.{EPERM}
-use Rattle.errno.specs.declared.Checked.TheVariants.{Fine, Refused}
 use Rattle.policy.specs.Policies.{policy_check}
 use Rattle.fscrypt.specs.Cipher.{Cipher}
 use Rattle.fscrypt.specs.Names.{name_check}
@@ -19,6 +18,7 @@ use Rattle.volume.specs.NotPermitted.{NotPermitted, LinksDirectory, SetsOnRoot, 
 use Rattle.ids.specs.declared.InodeNumber.{InodeNumber}
 use Rattle.volume.specs.declared.Volume.{Volume}
 use Rattle.volume.proofs.Refusing.{refused_by, past, past_line, at_last_line, at_else, tables, Gives, neither, set_policy_gives, link_gives, rename_gives, exchange_gives, gives}
+use Rattle.errno.specs.Refusals.{fine, refuse}
 
 module _ (C : Cipher) (v : Volume) where
   by_link : (i p : InodeNumber) (n : Bytes) → NotPermitted C v (link i p n) ↔ LinksDirectory v i p n
@@ -28,13 +28,13 @@ module _ (C : Cipher) (v : Volume) where
     λ r. answer.1 (table.1 (r.name, (r.inode, (r.parent, eq-eqb _ _ r.directory)))),
   )
     where
-      answer : NotPermitted C v (link i p n) ↔ (link_check C v i p n ≡ Refused EPERM)
+      answer : NotPermitted C v (link i p n) ↔ (link_check C v i p n ≡ refuse EPERM)
       answer = refused_by C v (link i p n) EPERM
 
       Table : Type 0
-      Table = (name_check n ≡ Fine) × ((is_free (inode_at v i) ≡ false) × ((directory_check v p ≡ Fine) × (is_directory (inode_at v i) ≡ true)))
+      Table = (name_check n ≡ fine) × ((is_free (inode_at v i) ≡ false) × ((directory_check v p ≡ fine) × (is_directory (inode_at v i) ≡ true)))
 
-      table : (link_check C v i p n ≡ Refused EPERM) ↔ Table
+      table : (link_check C v i p n ≡ refuse EPERM) ↔ Table
       table = past (search tables) (past_line _ refl (past (search tables) (at_last_line (search tables depth 25))))
 
   by_set_policy : (i : InodeNumber) (p x : Bytes) → NotPermitted C v (set_policy i p x) ↔ SetsOnRoot v i p
@@ -44,13 +44,13 @@ module _ (C : Cipher) (v : Volume) where
     λ r. answer.1 (table.1 (r.inode, (r.bytes, (r.first, eq-eqb _ _ r.root)))),
   )
     where
-      answer : NotPermitted C v (set_policy i p x) ↔ (set_policy_check v i p x ≡ Refused EPERM)
+      answer : NotPermitted C v (set_policy i p x) ↔ (set_policy_check v i p x ≡ refuse EPERM)
       answer = refused_by C v (set_policy i p x) EPERM
 
       Table : Type 0
-      Table = (is_free (inode_at v i) ≡ false) × ((policy_check p ≡ Fine) × (((inode_at v i).encrypted ≡ false) × (eqb i.0 0 ≡ true)))
+      Table = (is_free (inode_at v i) ≡ false) × ((policy_check p ≡ fine) × (((inode_at v i).encrypted ≡ false) × (eqb i.0 0 ≡ true)))
 
-      table : (set_policy_check v i p x ≡ Refused EPERM) ↔ Table
+      table : (set_policy_check v i p x ≡ refuse EPERM) ↔ Table
       table = past_line _ refl (past (search tables) (at_else _ (search tables) (at_last_line (search tables depth 25))))
 
   by_no_other : {r : Request} → Gives C v r → NotPermitted C v r → LinksOrSets r

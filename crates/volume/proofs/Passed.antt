@@ -8,9 +8,8 @@ use lib.Dec.{eqb, ltb}
 use borrow.Author.Tests.{eqb-false, ltb-false, leb-false}
 use Rattle.lists.specs.Bytes.{Bytes}
 use Rattle.lists.proofs.Tests.{not-false, if_true, if_false, and_known, or_left, or_right, eqb-true}
-use Rattle.errno.specs.declared.Checked.TheVariants.{Fine}
 use Rattle.errno.proofs.ChainMeanings.{table_passes as line, line_passes as test}
-use Rattle.policy.specs.Policies.{same_policy, policy_check, read_policy}
+use Rattle.policy.specs.Policies.{same_policy, policy_check, read_policy, policy_in}
 use Rattle.fscrypt.specs.Cipher.{Cipher}
 use Rattle.fscrypt.specs.Names.{name_check}
 use Rattle.volume.specs.Volume.{key_slots, inode_slots, entry_slots, name_of}
@@ -23,10 +22,11 @@ use Rattle.ids.specs.declared.EntryNumber.{EntryNumber}
 use Rattle.volume.specs.declared.Inode.{Inode}
 use Rattle.volume.specs.declared.Volume.{Volume}
 use Rattle.volume.proofs.SoundPolicy.{may_hold}
+use Rattle.errno.specs.Refusals.{fine}
 
 -- ---- lines that requests share
 
-pub is_directory_lem : (v : Volume) (p : InodeNumber) → directory_check v p ≡ Fine → (inode_at v p).kind ≡ 1
+pub is_directory_lem : (v : Volume) (p : InodeNumber) → directory_check v p ≡ fine → (inode_at v p).kind ≡ 1
 unfolding directory_check
 is_directory_lem v p h = let (there, (dir, end)) = simp (line, test) at h in eqb-true (not-false dir)
 
@@ -35,7 +35,7 @@ pub key_present_lem : (v : Volume) (node : Inode) → node.encrypted ≡ true �
 unfolding lacks_key
 key_present_lem v node e h = not-false (and_known e h)
 
-nonce_passed : (v : Volume) (x : Bytes) → nonce_check v x ≡ Fine → is_borne v x ≡ false
+nonce_passed : (v : Volume) (x : Bytes) → nonce_check v x ≡ fine → is_borne v x ≡ false
 unfolding nonce_check
 nonce_passed v x h = (simp (line, test) at h).0
 
@@ -46,13 +46,13 @@ pub record AddKeyPassed (v : Volume) (d : Bytes) (n : ℕ) : Type 0 where
   pub descriptor : ltb (key_slot_of v d) key_slots ≡ false
   pub room : free_key_slot v < key_slots
 
-pub add_key_passed : (v : Volume) (d : Bytes) (n : ℕ) → add_key_check v d n ≡ Fine → AddKeyPassed v d n
+pub add_key_passed : (v : Volume) (d : Bytes) (n : ℕ) → add_key_check v d n ≡ fine → AddKeyPassed v d n
 unfolding add_key_check
 add_key_passed v d n h =
     let (size, (descriptor, (room, end))) = simp (line, test) at h in
     record { size = size; descriptor = descriptor; room = leb-false key_slots (free_key_slot v) room }
 
-pub remove_key_passed : (v : Volume) (d : Bytes) → remove_key_check v d ≡ Fine → key_slot_of v d < key_slots
+pub remove_key_passed : (v : Volume) (d : Bytes) → remove_key_check v d ≡ fine → key_slot_of v d < key_slots
 unfolding remove_key_check
 remove_key_passed v d h = leb-false key_slots (key_slot_of v d) (simp (line, test) at h).0
 
@@ -67,11 +67,11 @@ pub record FirstPolicyPassed (v : Volume) (i : InodeNumber) (x : Bytes) : Type 0
 
 pub record SetPolicyPassed (v : Volume) (i : InodeNumber) (p x : Bytes) : Type 0 where
   pub inode : (inode_at v i).kind ≢ 0
-  pub policy : policy_check p ≡ Fine
-  pub same : (inode_at v i).encrypted ≡ true → same_policy (inode_at v i).context.policy (read_policy p).policy ≡ true
+  pub policy : policy_check p ≡ fine
+  pub same : (inode_at v i).encrypted ≡ true → same_policy (inode_at v i).context.policy (policy_in (read_policy p)) ≡ true
   pub first : (inode_at v i).encrypted ≡ false → FirstPolicyPassed v i x
 
-pub set_policy_passed : (v : Volume) (i : InodeNumber) (p x : Bytes) → set_policy_check v i p x ≡ Fine → SetPolicyPassed v i p x
+pub set_policy_passed : (v : Volume) (i : InodeNumber) (p x : Bytes) → set_policy_check v i p x ≡ fine → SetPolicyPassed v i p x
 unfolding set_policy_check
 set_policy_passed v i p x h =
     let (inode, (policy, last)) = simp (line, test) at h in
@@ -96,7 +96,7 @@ pub record ExchangePassed (v : Volume) (a b : EntryNumber) : Type 0 where
   pub one_clear : is_under_itself v (entry_at v a).inode (entry_at v b).parent ≡ false
   pub other_clear : is_under_itself v (entry_at v b).inode (entry_at v a).parent ≡ false
 
-pub exchange_passed : (v : Volume) (a b : EntryNumber) → exchange_check v a b ≡ Fine → ExchangePassed v a b
+pub exchange_passed : (v : Volume) (a b : EntryNumber) → exchange_check v a b ≡ fine → ExchangePassed v a b
 unfolding exchange_check
 exchange_passed v a b h =
     let (one, (other, (key₁, (key₂, (policy₁, (policy₂, (clear₁, (clear₂, end)))))))) = simp (line, test) at h in
@@ -115,7 +115,7 @@ pub record RemovePassed (v : Volume) (e : EntryNumber) : Type 0 where
   pub entry : is_vacant (entry_at v e) ≡ false
   pub empty : has_entries v (entry_at v e).inode ≡ false
 
-pub remove_passed : (v : Volume) (e : EntryNumber) → remove_check v e ≡ Fine → RemovePassed v e
+pub remove_passed : (v : Volume) (e : EntryNumber) → remove_check v e ≡ fine → RemovePassed v e
 unfolding remove_check
 remove_passed v e h =
     let (entry, (empty, end)) = simp (line, test) at h in
@@ -130,7 +130,7 @@ pub record BlockPassed (v : Volume) (i : InodeNumber) (n : ℕ) : Type 0 where
   pub has_context : (inode_at v i).encrypted ≡ true
   pub key : lacks_key v (inode_at v i) ≡ false
 
-pub block_passed : (v : Volume) (i : InodeNumber) (n : ℕ) → block_check v i n ≡ Fine → BlockPassed v i n
+pub block_passed : (v : Volume) (i : InodeNumber) (n : ℕ) → block_check v i n ≡ fine → BlockPassed v i n
 unfolding block_check
 block_passed v i n h =
     let (size, (inode, (regular, (context, (key, end))))) = simp (line, test) at h in
@@ -140,7 +140,7 @@ block_passed v i n h =
 
 module _ (C : Cipher) (v : Volume) where
   pub record CreatePassed (p : InodeNumber) (k : ℕ) (n x : Bytes) : Type 0 where
-    pub name : name_check n ≡ Fine
+    pub name : name_check n ≡ fine
     pub kind : (k ≢ 0) × (k ≤ 4)
     pub directory : (inode_at v p).kind ≡ 1
     pub key : lacks_key v (inode_at v p) ≡ false
@@ -149,7 +149,7 @@ module _ (C : Cipher) (v : Volume) where
     pub inode_room : free_inode v < inode_slots
     pub entry_room : free_entry v < entry_slots
 
-  pub create_passed : (p : InodeNumber) (k : ℕ) (n x : Bytes) → create_check C v p k n x ≡ Fine → CreatePassed p k n x
+  pub create_passed : (p : InodeNumber) (k : ℕ) (n x : Bytes) → create_check C v p k n x ≡ fine → CreatePassed p k n x
   unfolding create_check is_bad_kind
   create_passed p k n x h =
       let (name, (kind, (dir, (key, (free, (nonce, (inode, (entry, end)))))))) = simp (line, test) at h in
@@ -165,7 +165,7 @@ module _ (C : Cipher) (v : Volume) where
       }
 
   pub record LinkPassed (i p : InodeNumber) (n : Bytes) : Type 0 where
-    pub name : name_check n ≡ Fine
+    pub name : name_check n ≡ fine
     pub inode : (inode_at v i).kind ≢ 0
     pub directory : (inode_at v p).kind ≡ 1
     pub not_directory : (inode_at v i).kind ≢ 1
@@ -174,7 +174,7 @@ module _ (C : Cipher) (v : Volume) where
     pub free_name : is_taken v p (stored C v (inode_at v p) n) ≡ false
     pub entry_room : free_entry v < entry_slots
 
-  pub link_passed : (i p : InodeNumber) (n : Bytes) → link_check C v i p n ≡ Fine → LinkPassed i p n
+  pub link_passed : (i p : InodeNumber) (n : Bytes) → link_check C v i p n ≡ fine → LinkPassed i p n
   unfolding link_check
   link_passed i p n h =
       let (name, (inode, (dir, (other, (key, (policy, (free, (entry, end)))))))) = simp (line, test) at h in
@@ -190,7 +190,7 @@ module _ (C : Cipher) (v : Volume) where
       }
 
   pub record RenamePassed (e : EntryNumber) (p : InodeNumber) (n : Bytes) : Type 0 where
-    pub name : name_check n ≡ Fine
+    pub name : name_check n ≡ fine
     pub entry : is_vacant (entry_at v e) ≡ false
     pub directory : (inode_at v p).kind ≡ 1
     pub old_key : lacks_key v (inode_at v (entry_at v e).parent) ≡ false
@@ -199,7 +199,7 @@ module _ (C : Cipher) (v : Volume) where
     pub clear : is_under_itself v (entry_at v e).inode p ≡ false
     pub free_name : is_taken v p (stored C v (inode_at v p) n) ≡ false
 
-  pub rename_passed : (e : EntryNumber) (p : InodeNumber) (n : Bytes) → rename_check C v e p n ≡ Fine → RenamePassed e p n
+  pub rename_passed : (e : EntryNumber) (p : InodeNumber) (n : Bytes) → rename_check C v e p n ≡ fine → RenamePassed e p n
   unfolding rename_check
   rename_passed e p n h =
       let (name, (entry, (dir, (old, (key, (policy, (clear, (free, end)))))))) = simp (line, test) at h in
@@ -215,12 +215,12 @@ module _ (C : Cipher) (v : Volume) where
       }
 
   pub record FindPassed (p : InodeNumber) (n : Bytes) : Type 0 where
-    pub name : name_check n ≡ Fine
+    pub name : name_check n ≡ fine
     pub directory : (inode_at v p).kind ≡ 1
     pub key : lacks_key v (inode_at v p) ≡ false
     pub found : entry_named v p (stored C v (inode_at v p) n) < entry_slots
 
-  pub find_passed : (p : InodeNumber) (n : Bytes) → find_check C v p n ≡ Fine → FindPassed p n
+  pub find_passed : (p : InodeNumber) (n : Bytes) → find_check C v p n ≡ fine → FindPassed p n
   unfolding find_check
   find_passed p n h =
       let (name, (dir, (key, (found, end)))) = simp (line, test) at h in
@@ -231,7 +231,7 @@ module _ (C : Cipher) (v : Volume) where
     pub entry : is_vacant (entry_at v e) ≡ false
     pub readable : is_unreadable C v (inode_at v (entry_at v e).parent) (name_of (entry_at v e)) ≡ false
 
-  pub show_passed : (e : EntryNumber) (n : ℕ) → show_check C v e n ≡ Fine → ShowPassed e n
+  pub show_passed : (e : EntryNumber) (n : ℕ) → show_check C v e n ≡ fine → ShowPassed e n
   unfolding show_check
   show_passed e n h =
       let (room, (entry, (readable, end))) = simp (line, test) at h in

@@ -12,7 +12,6 @@ use borrow.Author.Tests.{eqb-false}
 use Rattle.lists.specs.Bytes.{Bytes}
 use Rattle.lists.proofs.Slots.{by_test}
 use Rattle.errno.specs.declared.Errno.TheVariants.{EXDEV}
-use Rattle.errno.specs.declared.Checked.TheVariants.{Fine, Refused}
 use Rattle.fscrypt.specs.Cipher.{Cipher, Lawful}
 use Rattle.fscrypt.specs.Names.{name_check}
 use Rattle.volume.specs.Volume.{fresh}
@@ -33,6 +32,7 @@ use Rattle.volume.proofs.PlainMeanings.{policy_refused}
 use Rattle.volume.proofs.Passed.{is_directory_lem}
 use Rattle.volume.proofs.Leaves.{leaves}
 use Rattle.volume.proofs.Soundness.{sound, at_no_time}
+use Rattle.errno.specs.Refusals.{fine, refuse}
 
 -- ---- the three requests
 
@@ -58,15 +58,15 @@ module _ (C : Cipher) (v : Volume) where
     λ d. let r = d.0 in answer.1 (table.1 (r.name, (r.inode, (r.parent, (r.not_directory, (r.key, (policy_refused _ _).1 d.1)))))),
   )
     where
-      answer : GivesRefusal C v (link i p n) ↔ (link_check C v i p n ≡ Refused EXDEV)
+      answer : GivesRefusal C v (link i p n) ↔ (link_check C v i p n ≡ refuse EXDEV)
       answer = refused_by C v (link i p n) EXDEV
 
       Table : Type 0
       Table =
-          (name_check n ≡ Fine) × ((is_free (inode_at v i) ≡ false) × ((directory_check v p ≡ Fine) × ((is_directory (inode_at v i) ≡ false) × ((lacks_key v (inode_at v p) ≡ false)
+          (name_check n ≡ fine) × ((is_free (inode_at v i) ≡ false) × ((directory_check v p ≡ fine) × ((is_directory (inode_at v i) ≡ false) × ((lacks_key v (inode_at v p) ≡ false)
           × (is_policy_refused (inode_at v p) (inode_at v i) ≡ true)))))
 
-      table : (link_check C v i p n ≡ Refused EXDEV) ↔ Table
+      table : (link_check C v i p n ≡ refuse EXDEV) ↔ Table
       table =
           past (search tables)
           (past_line _ refl
@@ -84,15 +84,15 @@ module _ (C : Cipher) (v : Volume) where
     λ d. let r = d.0 in answer.1 (table.1 (r.name, (r.entry, (r.parent, (r.old_key, (r.key, (policy_refused _ _).1 d.1)))))),
   )
     where
-      answer : GivesRefusal C v (rename e p n) ↔ (rename_check C v e p n ≡ Refused EXDEV)
+      answer : GivesRefusal C v (rename e p n) ↔ (rename_check C v e p n ≡ refuse EXDEV)
       answer = refused_by C v (rename e p n) EXDEV
 
       Table : Type 0
       Table =
-          (name_check n ≡ Fine) × ((is_vacant (entry_at v e) ≡ false) × ((directory_check v p ≡ Fine) × ((lacks_key v (dir_of v e.0) ≡ false) × ((lacks_key v (inode_at v p) ≡ false)
+          (name_check n ≡ fine) × ((is_vacant (entry_at v e) ≡ false) × ((directory_check v p ≡ fine) × ((lacks_key v (dir_of v e.0) ≡ false) × ((lacks_key v (inode_at v p) ≡ false)
           × (is_policy_refused (inode_at v p) (node_of v e.0) ≡ true)))))
 
-      table : (rename_check C v e p n ≡ Refused EXDEV) ↔ Table
+      table : (rename_check C v e p n ≡ refuse EXDEV) ↔ Table
       table =
           past (search tables)
           (past_line _ refl
@@ -111,7 +111,7 @@ module _ (C : Cipher) (v : Volume) where
     λ d. let r = d.0 in answer.1 (table.1 (r.one, (r.other, (r.one_key, (r.other_key, sides.1 d.1))))),
   )
     where
-      answer : GivesRefusal C v (exchange a b) ↔ (exchange_check v a b ≡ Refused EXDEV)
+      answer : GivesRefusal C v (exchange a b) ↔ (exchange_check v a b ≡ refuse EXDEV)
       answer = refused_by C v (exchange a b) EXDEV
 
       Sides : Type 0
@@ -126,7 +126,7 @@ module _ (C : Cipher) (v : Volume) where
       Table =
           (is_vacant (entry_at v a) ≡ false) × ((is_vacant (entry_at v b) ≡ false) × ((lacks_key v (dir_of v a.0) ≡ false) × ((lacks_key v (dir_of v b.0) ≡ false) × Sides)))
 
-      table : (exchange_check v a b ≡ Refused EXDEV) ↔ Table
+      table : (exchange_check v a b ≡ refuse EXDEV) ↔ Table
       table =
           past_line _ refl
           (past_line _ refl

@@ -6,11 +6,9 @@ use mathlib.Core.Bool.{Bool, true, false, cond, true≢false}
 use lib.Dec.{eqb}
 use borrow.Author.Tests.{eqb-false}
 use Rattle.lists.specs.Bytes.{Bytes}
-use Rattle.errno.specs.Refusals.{number, ◌⇒◌, ◌>>◌}
+use Rattle.errno.specs.Refusals.{Checked, fine, refuse, number, ◌⇒◌, ◌>>◌}
 use Rattle.errno.specs.declared.Errno.{Errno}
 use Rattle.errno.specs.declared.Errno.TheVariants.{EPERM, ENOENT, EXDEV, ENOTDIR, EINVAL, ENAMETOOLONG, ENOTUNIQ}
-use Rattle.errno.specs.declared.Checked.{Checked}
-use Rattle.errno.specs.declared.Checked.TheVariants.{Fine, Refused}
 use Rattle.errno.proofs.ChainMeanings.{number_means, refused_not_fine, line_refuses, line_passes, table_refuses}
 use Rattle.policy.specs.Policies.{policy_check}
 use Rattle.fscrypt.specs.Cipher.{Cipher}
@@ -22,22 +20,23 @@ use Rattle.ids.specs.declared.InodeNumber.{InodeNumber}
 use Rattle.ids.specs.declared.EntryNumber.{EntryNumber}
 use Rattle.volume.specs.declared.Volume.{Volume}
 use Rattle.volume.proofs.Touching.{never_refused}
+use Rattle.std.specs.declared.result.Result.TheVariants.{Ok, Err}
 
 -- no effect answers a refusal, so the number is the table's
-pub refused_by : (C : Cipher) (v : Volume) (r : Request) (x : Errno) → ((step C v r).answer ≡ refused (number x)) ↔ (check C v r ≡ Refused x)
+pub refused_by : (C : Cipher) (v : Volume) (r : Request) (x : Errno) → ((step C v r).answer ≡ refused (number x)) ↔ (check C v r ≡ refuse x)
 unfolding step settle
 refused_by C v r x = go (check C v r)
   where
-    go : (k : Checked) → ((settle v (lent r) k (effect C v r)).answer ≡ refused (number x)) ↔ (k ≡ Refused x)
-    go (Refused e) = (λ h. let n : number e ≡ number x = cc in ap Refused ((number_means e x).0 n), λ h. let n : e ≡ x = cc in ap (λ (y : Errno). refused (number y)) n)
-    go Fine = (λ h. absurd (never_refused C v r (number x) h), λ h. absurd (refused_not_fine x (sym h)))
+    go : (k : Checked) → ((settle v (lent r) k (effect C v r)).answer ≡ refused (number x)) ↔ (k ≡ refuse x)
+    go (Err e) = (λ h. let n : number e ≡ number x = cc in ap refuse ((number_means e x).0 n), λ h. let n : e ≡ x = cc in ap (λ (y : Errno). refused (number y)) n)
+    go (Ok _) = (λ h. absurd (never_refused C v r (number x) h), λ h. absurd (refused_not_fine x (sym h)))
 
 -- ---- a table that does not come to a refusal
 
 pub record Never (x : Errno) (k : Checked) : Type 0 where
-  pub no : k ≡ Refused x → ⊥
+  pub no : k ≡ refuse x → ⊥
 
-pub never_fine : (x : Errno) → Never x Fine
+pub never_fine : (x : Errno) → Never x fine
 never_fine x = record { no = λ h. refused_not_fine x (sym h) }
 
 -- a line with another number
@@ -47,7 +46,7 @@ never_line x e t other = record { no = λ h. eqb-false (number e) (number x) oth
 pub never_then : (x : Errno) (a b : Checked) → Never x a → Never x b → Never x (◌>>◌ a b)
 never_then x a b f g = record { no = λ h. go ((table_refuses a b x).0 h) }
   where
-    go : (a ≡ Refused x) ⊎ ((a ≡ Fine) × (b ≡ Refused x)) → ⊥
+    go : (a ≡ refuse x) ⊎ ((a ≡ fine) × (b ≡ refuse x)) → ⊥
     go (inl c) = f.no c
     go (inr c) = g.no c.1
 
@@ -61,36 +60,36 @@ pub ruleset nevers = (never_then, never_line, never_fine, never_choice, refl)
 
 module _ {x : Errno} {b : Checked} {D : Type 0} where
   -- past a part that does not
-  pub past : {a : Checked} → Never x a → ((b ≡ Refused x) ↔ D) → (◌>>◌ a b ≡ Refused x) ↔ ((a ≡ Fine) × D)
+  pub past : {a : Checked} → Never x a → ((b ≡ refuse x) ↔ D) → (◌>>◌ a b ≡ refuse x) ↔ ((a ≡ fine) × D)
   past {a} f w = (λ h. go ((table_refuses a b x).0 h), λ d. (table_refuses a b x).1 (inr (d.0, w.1 d.1)))
     where
-      go : (a ≡ Refused x) ⊎ ((a ≡ Fine) × (b ≡ Refused x)) → (a ≡ Fine) × D
+      go : (a ≡ refuse x) ⊎ ((a ≡ fine) × (b ≡ refuse x)) → (a ≡ fine) × D
       go (inl c) = absurd (f.no c)
       go (inr c) = (c.0, w.0 c.1)
 
   -- past a line with another number
-  pub past_line : {t : Bool} (e : Errno) → eqb (number e) (number x) ≡ false → ((b ≡ Refused x) ↔ D) → (◌>>◌ (t ⇒ e) b ≡ Refused x) ↔ ((t ≡ false) × D)
+  pub past_line : {t : Bool} (e : Errno) → eqb (number e) (number x) ≡ false → ((b ≡ refuse x) ↔ D) → (◌>>◌ (t ⇒ e) b ≡ refuse x) ↔ ((t ≡ false) × D)
   past_line {t} e other w =
       let p = past (never_line x e t other) w in
       (λ h. ((line_passes t e).0 (p.0 h).0, (p.0 h).1), λ d. p.1 ((line_passes t e).1 d.0, d.1))
 
   -- at a line of its own: there, or below
-  pub at_line : {t : Bool} → ((b ≡ Refused x) ↔ D) → (◌>>◌ (t ⇒ x) b ≡ Refused x) ↔ ((t ≡ true) ⊎ ((t ≡ false) × D))
+  pub at_line : {t : Bool} → ((b ≡ refuse x) ↔ D) → (◌>>◌ (t ⇒ x) b ≡ refuse x) ↔ ((t ≡ true) ⊎ ((t ≡ false) × D))
   at_line {t} w = (λ h. to ((table_refuses (t ⇒ x) b x).0 h), λ d. (table_refuses (t ⇒ x) b x).1 (from d))
     where
-      to : ((t ⇒ x) ≡ Refused x) ⊎ (((t ⇒ x) ≡ Fine) × (b ≡ Refused x)) → (t ≡ true) ⊎ ((t ≡ false) × D)
+      to : ((t ⇒ x) ≡ refuse x) ⊎ (((t ⇒ x) ≡ fine) × (b ≡ refuse x)) → (t ≡ true) ⊎ ((t ≡ false) × D)
       to (inl c) = inl ((line_refuses t x x).0 c).0
       to (inr c) = inr ((line_passes t x).0 c.0, w.0 c.1)
 
-      from : (t ≡ true) ⊎ ((t ≡ false) × D) → ((t ⇒ x) ≡ Refused x) ⊎ (((t ⇒ x) ≡ Fine) × (b ≡ Refused x))
+      from : (t ≡ true) ⊎ ((t ≡ false) × D) → ((t ⇒ x) ≡ refuse x) ⊎ (((t ⇒ x) ≡ fine) × (b ≡ refuse x))
       from (inl h) = inl ((line_refuses t x x).1 (h, refl))
       from (inr d) = inr ((line_passes t x).1 d.0, w.1 d.1)
 
 -- at the last line of its own: there
-pub at_last_line : {x : Errno} {b : Checked} {t : Bool} → Never x b → (◌>>◌ (t ⇒ x) b ≡ Refused x) ↔ (t ≡ true)
+pub at_last_line : {x : Errno} {b : Checked} {t : Bool} → Never x b → (◌>>◌ (t ⇒ x) b ≡ refuse x) ↔ (t ≡ true)
 at_last_line {x} {b} {t} f = (λ h. go (w.0 h), λ e. w.1 (inl e))
   where
-    w : (◌>>◌ (t ⇒ x) b ≡ Refused x) ↔ ((t ≡ true) ⊎ ((t ≡ false) × ⊥))
+    w : (◌>>◌ (t ⇒ x) b ≡ refuse x) ↔ ((t ≡ true) ⊎ ((t ≡ false) × ⊥))
     w = at_line (f.no, λ z. absurd z)
 
     go : (t ≡ true) ⊎ ((t ≡ false) × ⊥) → t ≡ true
@@ -98,7 +97,7 @@ at_last_line {x} {b} {t} f = (λ h. go (w.0 h), λ e. w.1 (inl e))
     go (inr d) = absurd d.1
 
 -- at the second of two tables, by a test
-pub at_else : {x : Errno} {a b : Checked} {D : Type 0} (t : Bool) → Never x a → ((b ≡ Refused x) ↔ D) → (cond t a b ≡ Refused x) ↔ ((t ≡ false) × D)
+pub at_else : {x : Errno} {a b : Checked} {D : Type 0} (t : Bool) → Never x a → ((b ≡ refuse x) ↔ D) → (cond t a b ≡ refuse x) ↔ ((t ≡ false) × D)
 at_else true f w = (λ h. absurd (f.no h), λ d. absurd (true≢false d.0))
 at_else false f w = (λ h. (refl, w.0 h), λ d. w.1 d.1)
 

@@ -14,8 +14,7 @@ use Rattle.lists.specs.Bytes.{Bytes, ByteList, same, zeros, laid_over}
 use Rattle.lists.proofs.Tests.{same_eq, same_self, if_true, if_false}
 use Rattle.lists.proofs.Tables.{all_set}
 use Rattle.lists.proofs.Slots.{all_same}
-use Rattle.errno.specs.Refusals.{number}
-use Rattle.errno.specs.declared.Checked.{Checked}
+use Rattle.errno.specs.Refusals.{Checked, number}
 use Rattle.fscrypt.specs.Cipher.{Cipher, Lawful}
 use Rattle.lists.proofs.ByteStrings.{length_zeros}
 use Rattle.volume.specs.Volume.{key_slots, inode_slots, entry_slots, no_key, no_inode, plain_inode, no_entry, name_of, fresh}

@@ -10,14 +10,12 @@ use lib.Dec.{eqb, ltb}
 use lib.Seq.{get_or-set_same, take-append_seam}
 use Rattle.lists.specs.Bytes.{Bytes, ByteList}
 use Rattle.lists.proofs.Tests.{eqb_other}
-use Rattle.errno.specs.Refusals.{◌⇒◌, ◌>>◌, is_fine}
+use Rattle.errno.specs.Refusals.{fine, ◌⇒◌, ◌>>◌, is_fine, check_of}
 use Rattle.errno.specs.declared.Errno.TheVariants.{ENOENT, ERANGE, EUCLEAN}
-use Rattle.errno.specs.declared.Checked.TheVariants.{Fine}
 use Rattle.policy.specs.Policies.{is_master_key_size, name_key_size}
 use Rattle.fscrypt.specs.Cipher.{Cipher, Lawful}
-use Rattle.fscrypt.specs.Names.{name_check, read_padded, name_bytes}
+use Rattle.fscrypt.specs.Names.{name_check, read_padded, name_bytes, name_in}
 use Rattle.fscrypt.specs.Encoded.{encoded}
-use Rattle.fscrypt.specs.declared.NameRead.{NameRead}
 use Rattle.volume.specs.Volume.{no_inode, no_entry, key_bytes, name_of, entry_slot}
 use Rattle.volume.specs.Request.{Request, create, link, rename, show, seal, unseal, Answer, done, created, at, shown, Outcome, outcome, Typed, Plain, Decrypted, Encoded}
 use Rattle.volume.specs.Lookup.{key_present, lacks_key, inode_at, free_inode, entry_at, is_vacant, free_entry, dir_of}
@@ -42,6 +40,9 @@ use Rattle.volume.proofs.SoundCreate.{free_kept}
 use Rattle.volume.proofs.ContextsStay.{context_stays}
 use Rattle.volume.proofs.Bytewise.{derived_bytes_lem, bytewise_kept}
 use Rattle.volume.proofs.StoredNames.{shows, same_keyring, stored_same, held_same}
+use Rattle.errno.specs.declared.Errno.{Errno}
+use Rattle.fscrypt.specs.declared.Name.{Name}
+use Rattle.std.specs.declared.result.Result.{Result}
 
 -- ---- what is read of a volume by the key of an inode
 
@@ -66,12 +67,12 @@ module _ (C : Cipher) (v w : Volume) (dir : Inode) (k : SameKey v w dir) where
   unreadable_same : (s : Bytes) → is_unreadable C w dir s ≡ is_unreadable C v dir s
   unfolding is_unreadable
   unreadable_same s =
-      ap₂ (λ (b : Bool) (r : NameRead). dir.encrypted && (b && not (is_fine r.checked))) (present_same v w dir k) (read_same s)
+      ap₂ (λ (b : Bool) (r : Result Name Errno). dir.encrypted && (b && not (is_fine (check_of r)))) (present_same v w dir k) (read_same s)
 
   shown_same : (e : EntryNumber) (s : Bytes) → shown_name C w dir e s ≡ shown_name C v dir e s
   unfolding shown_name
   shown_same e s =
-      ap₂ (λ (b : Bool) (r : NameRead). cond dir.encrypted (cond b (name_bytes r.name) (encoded s e.0)) s) (present_same v w dir k) (read_same s)
+      ap₂ (λ (b : Bool) (r : Result Name Errno). cond dir.encrypted (cond b (name_bytes (name_in r)) (encoded s e.0)) s) (present_same v w dir k) (read_same s)
 
   form_same : form_in w dir ≡ form_in v dir
   unfolding form_in
@@ -89,11 +90,11 @@ module _ (C : Cipher) (law : Lawful C) where
       → (step C v (seal i n b)).answer ≡ done → step C w (unseal i n (step C v (seal i n b)).buffer) ≡ outcome done b w
   unfolding check effect
   later_opens v w bytes i n b hb q k h =
-      let fine : block_check v i (length b) ≡ Fine = was_fine C v (seal i n b) done refl h in
+      let passed : block_check v i (length b) ≡ fine = was_fine C v (seal i n b) done refl h in
       let key = derived_key C v (inode_at v i) in
       let mode = (inode_at v i).context.policy.contents in
       let sealed = C.seal mode key n b in
-      let again : block_check w i (length sealed) ≡ Fine = block_same v w i (length sealed) q k ∙ ap (block_check v i) (law.length_seal mode key n b) ∙ fine in
+      let again : block_check w i (length sealed) ≡ fine = block_same v w i (length sealed) q k ∙ ap (block_check v i) (law.length_seal mode key n b) ∙ passed in
       let same_key : derived_key C w (inode_at w i) ≡ key = ap (derived_key C w) q ∙ derived_same C v w (inode_at v i) k in
       ap (λ (o : Outcome). step C w (unseal i n o.buffer)) (was_done C v (seal i n b) done refl h)
       ∙ done_by C w (unseal i n sealed) again
@@ -114,7 +115,7 @@ module _ (C : Cipher) (law : Lawful C) where
     abbrev after : Volume
     after = same_keyring v is es
 
-    shows_new : Bytewise after → (e : EntryNumber) (p i : InodeNumber) (n : Bytes) → ByteList n → name_check n ≡ Fine → lacks_key v (inode_at v p) ≡ false
+    shows_new : Bytewise after → (e : EntryNumber) (p i : InodeNumber) (n : Bytes) → ByteList n → name_check n ≡ fine → lacks_key v (inode_at v p) ≡ false
         → get_or is p.0 no_inode ≡ inode_at v p → get_or es e.0 no_entry ≡ entry_slot p i (stored C v (inode_at v p) n) → ShowsAs C after e n
     shows_new w e p i n hn good held dir slot =
         let s = stored C v (inode_at v p) n in
@@ -192,7 +193,7 @@ module _ (C : Cipher) (v w : Volume) (e : EntryNumber) (qx : SameName v w e) (qd
   check_later : (n : ℕ) → show_check C w e n ≡ show_check C v e n
   unfolding show_check
   check_later n =
-      ap₂ (λ (a b : Bool). ◌>>◌ (ltb n 255 ⇒ ERANGE) (◌>>◌ (a ⇒ ENOENT) (◌>>◌ (b ⇒ EUCLEAN) Fine))) (ap (λ (n : ℕ). eqb n 0) qx.0) unreadable_later
+      ap₂ (λ (a b : Bool). ◌>>◌ (ltb n 255 ⇒ ERANGE) (◌>>◌ (a ⇒ ENOENT) (◌>>◌ (b ⇒ EUCLEAN) fine))) (ap (λ (n : ℕ). eqb n 0) qx.0) unreadable_later
 
   later_shows : (n : Bytes) → ShowsAs C v e n → ShowsAs C w e n
   unfolding check effect

@@ -12,7 +12,7 @@ use Rattle.lists.specs.Bytes.{Bytes, ByteList}
 use Rattle.lists.proofs.ByteStrings.{take_bytes}
 use Rattle.lists.proofs.Slots.{by_eq}
 use Rattle.fscrypt.specs.Cipher.{Cipher, Lawful}
-use Rattle.fscrypt.specs.Names.{name_bytes}
+use Rattle.fscrypt.specs.Names.{name_bytes, name_in}
 use Rattle.fscrypt.specs.Encoded.{encoded}
 use Rattle.fscrypt.proofs.Shown.{encoded_length_low, encoded_length_high, encoded_fair}
 use Rattle.fscrypt.proofs.Distinct.{encoded_apart}
@@ -46,7 +46,7 @@ keyless_name x s t false k h = absurd (let z : ◌≡◌ {A = ℕ} 0 1 = cc in o
 module _ (C : Cipher) (v : Volume) where
   shown_encoded : (dir : Inode) (e : EntryNumber) (s : Bytes) → form_in v dir ≡ Encoded → shown_name C v dir e s ≡ encoded s e.0
   unfolding shown_name form_in
-  shown_encoded dir e s h = keyless_name (name_bytes (read_name C v dir s).name) s (encoded s e.0) dir.encrypted (key_present v dir) h
+  shown_encoded dir e s h = keyless_name (name_bytes (name_in (read_name C v dir s))) s (encoded s e.0) dir.encrypted (key_present v dir) h
 
   module _ (e : EntryNumber) (p : InodeNumber) (n : Bytes) (h : ShownKeyless C v e p n) where
     abbrev x : Entry

@@ -13,7 +13,6 @@ use Rattle.lists.specs.Bytes.{Bytes, zeros}
 use Rattle.lists.proofs.Tests.{eqb_other, same_of_eq}
 use Rattle.lists.proofs.Tables.{all_set}
 use Rattle.lists.proofs.Slots.{Apart, apart_set, search_none}
-use Rattle.errno.specs.declared.Checked.TheVariants.{Fine}
 use Rattle.policy.specs.Policies.{is_valid, no_context}
 use Rattle.fscrypt.specs.Names.{name_check, padded_length}
 use Rattle.lists.proofs.ByteStrings.{length_zeros}
@@ -27,6 +26,7 @@ use Rattle.volume.specs.declared.Key.{Key}
 use Rattle.volume.specs.declared.Inode.{Inode}
 use Rattle.volume.specs.declared.Entry.{Entry}
 use Rattle.volume.specs.declared.Volume.{Volume}
+use Rattle.errno.specs.Refusals.{fine}
 
 -- ---- one slot
 
@@ -54,7 +54,7 @@ pub record InodeOk (n : Inode) : Type 0 where
 pub record NameOk (dir : Inode) (s : Bytes) : Type 0 where
   pub some : 0 < length s
   pub fits : length s ≤ 255
-  pub plain : dir.encrypted ≡ false → name_check s ≡ Fine
+  pub plain : dir.encrypted ≡ false → name_check s ≡ fine
   pub sealed : dir.encrypted ≡ true → (n : ℕ) × (0 < n) × (n ≤ 255) × (length s ≡ padded_length dir.context.policy.flags n)
 
 -- the inode of this number in a table

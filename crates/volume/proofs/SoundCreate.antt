@@ -11,7 +11,6 @@ use Rattle.lists.specs.Bytes.{Bytes}
 use Rattle.lists.proofs.Tests.{eqb-true}
 use Rattle.lists.proofs.Tables.{first_at_passes}
 use Rattle.lists.proofs.Slots.{by_eq}
-use Rattle.errno.specs.declared.Checked.TheVariants.{Fine}
 use Rattle.fscrypt.specs.Cipher.{Cipher, Lawful}
 use Rattle.volume.specs.Volume.{no_inode, no_entry, entry_slot}
 use Rattle.volume.specs.Request.{create}
@@ -30,6 +29,7 @@ use Rattle.volume.proofs.SoundInvariant.{Held, Inv, one≢zero, free_same, still
 use Rattle.volume.proofs.SoundInvariant.{entry_same, name_ok, slot_ok, nonce_free, child_kind, child_ok, child_policy, child_nonce}
 use Rattle.volume.proofs.Passed.{CreatePassed, create_passed}
 use Rattle.volume.proofs.SoundLink.{vacant}
+use Rattle.errno.specs.Refusals.{fine}
 
 -- the slot that a new inode takes is free
 pub free_kind : (v : Volume) → (node_at v (free_inode v)).kind ≡ 0
@@ -133,6 +133,6 @@ module _ (C : Cipher) (law : Lawful C) (v : Volume) (ok : Inv v) where
             ))
             (λ ne. climbs j (ap (λ (m : Inode). m.kind) (sym (get_or-set_other v.inodes i j newcomer no_inode ne)) ∙ k))
 
-    pub create_keeps : create_check C v p kind n x ≡ Fine → Inv (effect C v (create p kind n x)).volume
+    pub create_keeps : create_check C v p kind n x ≡ fine → Inv (effect C v (create p kind n x)).volume
     unfolding effect
     create_keeps h = makes (create_passed C v p kind n x h)

@@ -10,7 +10,6 @@ use lib.Seq.{get_or-set_same, get_or-set_other}
 use lib.Dec.{eqb}
 use Rattle.lists.proofs.Tests.{eqb-true, eqb_self, eqb_other}
 use Rattle.lists.proofs.Slots.{by_eq, by_test}
-use Rattle.errno.specs.declared.Checked.TheVariants.{Fine}
 use Rattle.fscrypt.specs.Cipher.{Cipher}
 use Rattle.volume.specs.Volume.{no_entry}
 use Rattle.volume.specs.Request.{exchange}
@@ -25,6 +24,7 @@ use Rattle.volume.proofs.SoundCore.{EntryOk, InUse, SameName, SameNode}
 use Rattle.volume.proofs.SoundClimb.{Any, Up, Rooted, up_moves, up_again}
 use Rattle.volume.proofs.SoundInvariant.{Inv, used_range, entry_other, NotOf, clear_both}
 use Rattle.volume.proofs.Passed.{exchange_passed}
+use Rattle.errno.specs.Refusals.{fine}
 
 module _ (v : Volume) (ok : Inv v) where
   -- once the entry a holds the inode of b, and all but a and b are as they were, that inode is rooted
@@ -171,7 +171,7 @@ module _ (v : Volume) (ok : Inv v) where
             (λ nb. subst (Joins e) (sym (σ-other e na nb)) (ok.core.joined.entries_ok e u).policy))
 
 module _ (C : Cipher) (v : Volume) (ok : Inv v) where
-  pub exchange_keeps : (a b : EntryNumber) → exchange_check v a b ≡ Fine → Inv (effect C v (exchange a b)).volume
+  pub exchange_keeps : (a b : EntryNumber) → exchange_check v a b ≡ fine → Inv (effect C v (exchange a b)).volume
   unfolding effect
   exchange_keeps a b h =
       let c = exchange_passed v a b h in

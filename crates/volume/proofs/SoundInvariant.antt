@@ -13,7 +13,6 @@ use borrow.Author.Tests.{eqb-false, leb-true, le-leb}
 use Rattle.lists.specs.Bytes.{Bytes}
 use Rattle.lists.proofs.Tests.{and_left, and_right, and_known, same_of_eq}
 use Rattle.lists.proofs.Slots.{by_test, by_cond, within, search_none}
-use Rattle.errno.specs.declared.Checked.TheVariants.{Fine}
 use Rattle.fscrypt.specs.Cipher.{Cipher, Lawful}
 use Rattle.fscrypt.specs.Names.{name_check, padded_length, padded, encrypted}
 use Rattle.fscrypt.proofs.Padding.{pad_fits, length_padded, plain_name}
@@ -29,6 +28,7 @@ use Rattle.volume.specs.declared.Entry.{Entry}
 use Rattle.volume.specs.declared.Volume.{Volume}
 use Rattle.volume.proofs.SoundCore.{Core, InodeOk, NameOk, EntryOk, SameNonce, InUse, node_in, slot_name, plain_ok}
 use Rattle.volume.proofs.SoundClimb.{Any, Up, Tree, up_unique, up_short, avoid_met, avoid}
+use Rattle.errno.specs.Refusals.{fine}
 
 abbrev pub Holder : List Entry → ℕ → Type 0
 Holder es i = (e : ℕ) × InUse (get_or es e no_entry) × ((get_or es e no_entry).inode.0 ≡ i)
@@ -98,7 +98,7 @@ in_plain dir node h e k = by_test dir.encrypted (λ d. absurd (false≢true (sym
 
 -- ---- names
 
-pub name_ok : (C : Cipher) → Lawful C → (v : Volume) (dir : Inode) (n : Bytes) → name_check n ≡ Fine → NameOk dir (stored C v dir n)
+pub name_ok : (C : Cipher) → Lawful C → (v : Volume) (dir : Inode) (n : Bytes) → name_check n ≡ fine → NameOk dir (stored C v dir n)
 unfolding stored encrypted
 name_ok C law v dir n h =
     let flags = dir.context.policy.flags in
@@ -112,7 +112,7 @@ name_ok C law v dir n h =
     record {
       some = by_cond (λ (s : Bytes). 0 < length s) dir.encrypted _ _ (λ e. omega (arith, len, f.low)) (λ e. some);
       fits = by_cond (λ (s : Bytes). length s ≤ 255) dir.encrypted _ _ (λ e. omega (arith, len, f.high)) (λ e. short);
-      plain = by_cond (λ (s : Bytes). dir.encrypted ≡ false → name_check s ≡ Fine) dir.encrypted _ _ (λ e d. absurd (true≢false (sym e ∙ d))) (λ e d. h);
+      plain = by_cond (λ (s : Bytes). dir.encrypted ≡ false → name_check s ≡ fine) dir.encrypted _ _ (λ e d. absurd (true≢false (sym e ∙ d))) (λ e d. h);
       sealed = by_cond (λ (s : Bytes). dir.encrypted ≡ true → (k : ℕ) × (0 < k) × (k ≤ 255) × (length s ≡ padded_length flags k)) dir.encrypted _ _
           (λ e d. (length n, some, short, len)) (λ e d. absurd (true≢false (sym d ∙ e)));
     }

@@ -9,7 +9,6 @@ use lib.Seq.{take-append_seam}
 use Rattle.lists.specs.Bytes.{Bytes, zeros}
 use Rattle.lists.proofs.Tests.{eqb-true, same_of_eq}
 use Rattle.lists.proofs.Slots.{search_none}
-use Rattle.errno.specs.declared.Checked.TheVariants.{Fine}
 use Rattle.fscrypt.specs.Cipher.{Cipher}
 use Rattle.volume.specs.Volume.{key_slots, no_key, key_slot}
 use Rattle.volume.specs.Request.{add_key, remove_key}
@@ -20,6 +19,7 @@ use Rattle.volume.specs.declared.Volume.{Volume}
 use Rattle.volume.proofs.SoundCore.{KeyOk, no_key_ok, keys_core}
 use Rattle.volume.proofs.SoundInvariant.{Inv}
 use Rattle.volume.proofs.Passed.{add_key_passed}
+use Rattle.errno.specs.Refusals.{fine}
 
 key_ok : (d k : Bytes) → length d ≡ 8 → is_bad_key_length (length k) ≡ false → KeyOk (key_slot d k)
 unfolding is_bad_key_length
@@ -32,7 +32,7 @@ key_ok d k dl h = record {
 }
 
 module _ (C : Cipher) (v : Volume) (ok : Inv v) where
-  pub add_key_keeps : (d k : Bytes) → length d ≡ 8 → add_key_check v d (length k) ≡ Fine → Inv (effect C v (add_key d k)).volume
+  pub add_key_keeps : (d k : Bytes) → length d ≡ 8 → add_key_check v d (length k) ≡ fine → Inv (effect C v (add_key d k)).volume
   unfolding effect key_slot_of
   add_key_keeps d k dl h =
       let c = add_key_passed v d (length k) h in

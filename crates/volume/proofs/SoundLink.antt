@@ -7,7 +7,6 @@ use mathlib.Core.Bool.{true}
 use lib.ListN.{set}
 use Rattle.lists.specs.Bytes.{Bytes}
 use Rattle.lists.proofs.Tables.{first_at_passes}
-use Rattle.errno.specs.declared.Checked.TheVariants.{Fine}
 use Rattle.fscrypt.specs.Cipher.{Cipher, Lawful}
 use Rattle.volume.specs.Volume.{no_entry, entry_slot}
 use Rattle.volume.specs.Request.{link}
@@ -22,6 +21,7 @@ use Rattle.volume.proofs.SoundCore.{store_core}
 use Rattle.volume.proofs.SoundClimb.{up_again}
 use Rattle.volume.proofs.SoundInvariant.{Inv, free_same, still_held, name_ok, slot_ok}
 use Rattle.volume.proofs.Passed.{link_passed}
+use Rattle.errno.specs.Refusals.{fine}
 
 -- the slot that a new entry takes is free
 pub vacant : (v : Volume) → is_vacant (slot_at v (free_entry v)) ≡ true
@@ -29,7 +29,7 @@ unfolding free_entry
 vacant v = first_at_passes is_vacant v.entries no_entry refl
 
 module _ (C : Cipher) (law : Lawful C) (v : Volume) (ok : Inv v) where
-  pub link_keeps : (i p : InodeNumber) (n : Bytes) → link_check C v i p n ≡ Fine → Inv (effect C v (link i p n)).volume
+  pub link_keeps : (i p : InodeNumber) (n : Bytes) → link_check C v i p n ≡ fine → Inv (effect C v (link i p n)).volume
   unfolding effect
   link_keeps i p n h =
       let c = link_passed C v i p n h in

@@ -11,7 +11,6 @@ use borrow.Author.Tests.{not-true, eq-eqb}
 use Rattle.lists.specs.Bytes.{first_at}
 use Rattle.lists.proofs.Tests.{and_left, and_right, eqb-true}
 use Rattle.lists.proofs.Slots.{by_cond, by_eq, search_hit, search_none}
-use Rattle.errno.specs.declared.Checked.TheVariants.{Fine}
 use Rattle.fscrypt.specs.Cipher.{Cipher}
 use Rattle.volume.specs.Volume.{entry_slots, no_inode, no_entry}
 use Rattle.volume.specs.Request.{remove}
@@ -27,6 +26,7 @@ use Rattle.volume.proofs.SoundCore.{no_inode_ok, InUse, node_in, none_in, clear_
 use Rattle.volume.proofs.SoundClimb.{Rooted, up_moves, avoid_leaf}
 use Rattle.volume.proofs.SoundInvariant.{Holder, Inv, one≢zero, used_range, kind_range, still_held, entry_same, NotOf}
 use Rattle.volume.proofs.Passed.{remove_passed}
+use Rattle.errno.specs.Refusals.{fine}
 
 module _ (v : Volume) (ok : Inv v) (e : ℕ) (u : InUse (slot_at v e)) (empty : has_entries v (slot_at v e).inode ≡ false) where
   abbrev gone : InodeNumber
@@ -124,7 +124,7 @@ module _ (v : Volume) (ok : Inv v) (e : ℕ) (u : InUse (slot_at v e)) (empty : 
       in_use j k q = k (ap (λ (m : ℕ). (node_in is' m).kind) q ∙ cleared)
 
 module _ (C : Cipher) (v : Volume) (ok : Inv v) where
-  pub remove_keeps : (e : EntryNumber) → remove_check v e ≡ Fine → Inv (effect C v (remove e)).volume
+  pub remove_keeps : (e : EntryNumber) → remove_check v e ≡ fine → Inv (effect C v (remove e)).volume
   unfolding effect without_unheld
   remove_keeps e h =
       let c = remove_passed v e h in

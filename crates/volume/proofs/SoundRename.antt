@@ -8,7 +8,6 @@ use lib.ListN.{get_or, set}
 use lib.Seq.{get_or-set_same, get_or-set_other}
 use Rattle.lists.specs.Bytes.{Bytes}
 use Rattle.lists.proofs.Slots.{by_eq}
-use Rattle.errno.specs.declared.Checked.TheVariants.{Fine}
 use Rattle.fscrypt.specs.Cipher.{Cipher, Lawful}
 use Rattle.volume.specs.Volume.{no_entry, entry_slot}
 use Rattle.volume.specs.Request.{rename}
@@ -24,6 +23,7 @@ use Rattle.volume.proofs.SoundCore.{EntryOk, InUse, slot_used, store_core}
 use Rattle.volume.proofs.SoundClimb.{Any, Up, Rooted, up_moves, up_again}
 use Rattle.volume.proofs.SoundInvariant.{Inv, still_held, used_range, name_ok, slot_ok, NotOf, clear_of}
 use Rattle.volume.proofs.Passed.{RenamePassed, rename_passed}
+use Rattle.errno.specs.Refusals.{fine}
 
 module _ (C : Cipher) (law : Lawful C) (v : Volume) (ok : Inv v) where
   module _ (e : ℕ) (p : InodeNumber) (n : Bytes) (c : RenamePassed C v (record { 0 = e }) p n) where
@@ -79,6 +79,6 @@ module _ (C : Cipher) (law : Lawful C) (v : Volume) (ok : Inv v) where
               },
             )
 
-  pub rename_keeps : (e : EntryNumber) (p : InodeNumber) (n : Bytes) → rename_check C v e p n ≡ Fine → Inv (effect C v (rename e p n)).volume
+  pub rename_keeps : (e : EntryNumber) (p : InodeNumber) (n : Bytes) → rename_check C v e p n ≡ fine → Inv (effect C v (rename e p n)).volume
   unfolding effect
   rename_keeps e p n h = moves e.0 p n (rename_passed C v e p n h)

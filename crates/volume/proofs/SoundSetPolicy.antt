@@ -9,8 +9,7 @@ use lib.ListN.{length, set}
 use lib.Seq.{get_or-set_same, get_or-set_other}
 use Rattle.lists.specs.Bytes.{Bytes}
 use Rattle.lists.proofs.Slots.{by_eq, by_cond}
-use Rattle.errno.specs.declared.Checked.TheVariants.{Fine}
-use Rattle.policy.specs.Policies.{read_policy, is_valid}
+use Rattle.policy.specs.Policies.{read_policy, is_valid, policy_in}
 use Rattle.policy.specs.declared.Policy.{Policy}
 use Rattle.policy.proofs.Codec.{read_policy_checked, read_policy_fine, read_policy_length}
 use Rattle.fscrypt.specs.Cipher.{Cipher}
@@ -25,6 +24,7 @@ use Rattle.volume.specs.declared.Volume.{Volume}
 use Rattle.volume.proofs.SoundCore.{InodeOk, EntryOk, InUse, node_in, none_in, put_core}
 use Rattle.volume.proofs.SoundInvariant.{Inv, one≢zero, kind_range, entry_again, entry_same, in_plain, nonce_free}
 use Rattle.volume.proofs.Passed.{FirstPolicyPassed, set_policy_passed}
+use Rattle.errno.specs.Refusals.{fine, check_of}
 
 module _ (v : Volume) (ok : Inv v) (i : InodeNumber) (pol : Policy) (x : Bytes) (dl : length pol.descriptor ≡ 8) (xl : length x ≡ 16) where
   abbrev bearer : Inode
@@ -76,10 +76,10 @@ module _ (v : Volume) (ok : Inv v) (i : InodeNumber) (pol : Policy) (x : Bytes) 
           (λ ne. entry_same v.inodes is' n w dir (get_or-set_other v.inodes i.0 n.inode.0 bearer no_inode ne))
 
 module _ (C : Cipher) (v : Volume) (ok : Inv v) where
-  pub set_policy_keeps : (i : InodeNumber) (p x : Bytes) → length x ≡ 16 → set_policy_check v i p x ≡ Fine → Inv (effect C v (set_policy i p x)).volume
+  pub set_policy_keeps : (i : InodeNumber) (p x : Bytes) → length x ≡ 16 → set_policy_check v i p x ≡ fine → Inv (effect C v (set_policy i p x)).volume
   unfolding effect
   set_policy_keeps i p x xl h =
       let c = set_policy_passed v i p x h in
-      let fine : (read_policy p).checked ≡ Fine = read_policy_checked p ∙ c.policy in
+      let fine : check_of (read_policy p) ≡ fine = read_policy_checked p ∙ c.policy in
       by_cond Inv (inode_at v i).encrypted _ _ (λ e. ok)
-      (λ e. bears v ok i (read_policy p).policy x (read_policy_length p fine) xl (read_policy_fine p fine) e (c.first e))
+      (λ e. bears v ok i (policy_in (read_policy p)) x (read_policy_length p fine) xl (read_policy_fine p fine) e (c.first e))

@@ -11,7 +11,6 @@ use borrow.Author.Tests.{eq-eqb, eqb-false}
 use Rattle.lists.specs.Bytes.{zeros}
 use Rattle.lists.proofs.Tests.{eqb-true, eqb_other}
 use Rattle.lists.proofs.Slots.{by_eq, by_test, all_same}
-use Rattle.errno.specs.declared.Checked.TheVariants.{Fine}
 use Rattle.policy.proofs.Meanings.{valid}
 use Rattle.fscrypt.specs.Cipher.{Cipher, Lawful}
 use Rattle.fscrypt.proofs.NameMeanings.{name_check_fine}
@@ -40,6 +39,7 @@ use Rattle.volume.proofs.SoundRename.{rename_keeps}
 use Rattle.volume.proofs.SoundCreate.{create_keeps}
 use Rattle.volume.proofs.SoundExchange.{exchange_keeps}
 use Rattle.volume.proofs.SoundRemove.{remove_keeps}
+use Rattle.errno.specs.Refusals.{fine}
 
 -- ---- from the invariant to the rules
 
@@ -214,7 +214,7 @@ fresh_sound = inv_sound fresh fresh_inv
 -- ---- requests and runs
 
 module _ (C : Cipher) (law : Lawful C) where
-  effect_keeps : (v : Volume) → Inv v → {r : Request} → Touches r → Typed r → check C v r ≡ Fine → Inv (effect C v r).volume
+  effect_keeps : (v : Volume) → Inv v → {r : Request} → Touches r → Typed r → check C v r ≡ fine → Inv (effect C v r).volume
   unfolding check effect
   effect_keeps v ok (asks answers leaves unnaming) t h = subst Inv (sym (leaves C v)) ok
   effect_keeps v ok (adds_key d k) t h = add_key_keeps C v ok d k t.0 h

@@ -11,12 +11,9 @@ use borrow.Author.Tests.{le-ltb}
 use Rattle.lists.specs.Bytes.{Bytes, ByteList}
 use Rattle.lists.proofs.Tests.{if_true, if_false}
 use Rattle.lists.proofs.Slots.{by_test, by_cond}
-use Rattle.errno.specs.Refusals.{◌⇒◌, ◌>>◌, is_fine}
-use Rattle.errno.specs.declared.Checked.{Checked}
-use Rattle.errno.specs.declared.Checked.TheVariants.{Fine}
+use Rattle.errno.specs.Refusals.{Checked, fine, ◌⇒◌, ◌>>◌, is_fine, check_of}
 use Rattle.fscrypt.specs.Cipher.{Cipher, Lawful}
-use Rattle.fscrypt.specs.Names.{name_check, read_padded, name_bytes, packed}
-use Rattle.fscrypt.specs.declared.NameRead.{NameRead}
+use Rattle.fscrypt.specs.Names.{name_check, read_padded, name_bytes, packed, name_in}
 use Rattle.fscrypt.proofs.Padding.{read_stored, name_bytes_packed}
 use Rattle.volume.specs.Volume.{name_of}
 use Rattle.volume.specs.Request.{show, Form, Plain, Decrypted, Encoded}
@@ -32,14 +29,18 @@ use Rattle.volume.specs.declared.Entry.{Entry}
 use Rattle.volume.specs.declared.Volume.{Volume}
 use Rattle.volume.proofs.Passed.{key_present_lem}
 use Rattle.volume.proofs.Bytewise.{name_key_bytes}
+use Rattle.errno.specs.declared.Errno.{Errno}
+use Rattle.fscrypt.specs.declared.Name.{Name}
+use Rattle.std.specs.declared.result.Result.{Result}
+use Rattle.std.specs.declared.result.Result.TheVariants.{Ok}
 
 module _ (C : Cipher) (law : Lawful C) where
-  module _ (v : Volume) (w : Bytewise v) (dir : Inode) (hx : ByteList dir.context.nonce) (n : Bytes) (hn : ByteList n) (good : name_check n ≡ Fine)
+  module _ (v : Volume) (w : Bytewise v) (dir : Inode) (hx : ByteList dir.context.nonce) (n : Bytes) (hn : ByteList n) (good : name_check n ≡ fine)
       (held : lacks_key v dir ≡ false) where
     abbrev flags : ℕ
     flags = dir.context.policy.flags
 
-    reads : dir.encrypted ≡ true → read_name C v dir (stored C v dir n) ≡ record { checked = Fine; name = packed n }
+    reads : dir.encrypted ≡ true → read_name C v dir (stored C v dir n) ≡ Ok (packed n)
     unfolding read_name stored
     reads e =
         ap (λ (s : Bytes). read_padded flags (C.decrypt_name (name_key C v dir) s)) (if_true _ _ e) ∙ read_stored C law (name_key C v dir) flags n (name_key_bytes C law v w dir hx) hn good
@@ -48,8 +49,8 @@ module _ (C : Cipher) (law : Lawful C) where
     unfolding is_unreadable
     readable =
         by_test dir.encrypted
-        (λ e. last dir.encrypted (key_present v dir) (ap (λ (r : NameRead). not (is_fine r.checked)) (reads e)))
-        (λ e. ap (λ (t : Bool). t && (key_present v dir && not (is_fine (read_name C v dir (stored C v dir n)).checked))) e)
+        (λ e. last dir.encrypted (key_present v dir) (ap (λ (r : Result Name Errno). not (is_fine (check_of r))) (reads e)))
+        (λ e. ap (λ (t : Bool). t && (key_present v dir && not (is_fine (check_of (read_name C v dir (stored C v dir n)))))) e)
       where
         last : (a b : Bool) {c : Bool} → c ≡ false → (a && (b && c)) ≡ false
         last true true e = e
@@ -60,7 +61,7 @@ module _ (C : Cipher) (law : Lawful C) where
     unfolding shown_name stored
     shown_name_lem e =
         by_test dir.encrypted
-        (λ t. if_true _ _ t ∙ if_true _ _ (key_present_lem v dir t held) ∙ ap (λ (r : NameRead). name_bytes r.name) (reads t) ∙ name_bytes_packed n)
+        (λ t. if_true _ _ t ∙ if_true _ _ (key_present_lem v dir t held) ∙ ap (λ (r : Result Name Errno). name_bytes (name_in r)) (reads t) ∙ name_bytes_packed n)
         (λ t. if_false _ _ t ∙ if_false _ _ t)
 
     abbrev is_encoded : Form → Bool
@@ -86,7 +87,7 @@ module _ (C : Cipher) (law : Lawful C) where
         ap (λ (d : Inode). is_unreadable C v d (name_of x)) there ∙ ap (is_unreadable C v dir) name ∙ readable in
         let is_name : shown_name C v (inode_at v x.parent) e (name_of x) ≡ n =
         ap (λ (d : Inode). shown_name C v d e (name_of x)) there ∙ ap (shown_name C v dir e) name ∙ shown_name_lem e in
-        let fine : show_check C v e (length b) ≡ Fine = rw (le-ltb (length b) 255 room, used, unreadable) in (
+        let fine : show_check C v e (length b) ≡ fine = rw (le-ltb (length b) 255 room, used, unreadable) in (
           _,
           ap (λ (k : Checked). (settle v b k o).answer) fine,
           λ q. not_encoded (ap (form_in v) (sym there) ∙ q),

@@ -8,11 +8,9 @@ use mathlib.Core.Option.{Option, some, none}
 use lib.ListN.{length, get_or, take, drop}
 use lib.Dec.{T, eqb}
 use Rattle.lists.specs.Bytes.{Bytes, ByteList, laid_over}
-use Rattle.errno.specs.Refusals.{number, ◌⇒◌, ◌>>◌}
+use Rattle.errno.specs.Refusals.{Checked, fine, refuse, number, ◌⇒◌, ◌>>◌}
 use Rattle.errno.specs.declared.Errno.{Errno}
 use Rattle.errno.specs.declared.Errno.TheVariants.{EUCLEAN}
-use Rattle.errno.specs.declared.Checked.{Checked}
-use Rattle.errno.specs.declared.Checked.TheVariants.{Fine, Refused}
 use Rattle.policy.specs.Policies.{name_key_size}
 use Rattle.fscrypt.specs.Cipher.{Cipher, Lawful}
 use Rattle.fscrypt.specs.Names.{name_check, padded}
@@ -60,8 +58,8 @@ clean (block_buffer b) n t = tt
 
 -- both refuse with one number, which is clean, or both come to Fine and Q holds
 pub data Alike (l : Lent) (Q : Type 0) : Checked → Checked → Type 0 where
-  both_refuse : (e : Errno) → Clean l (number e) → Alike l Q (Refused e) (Refused e)
-  both_fine : Q → Alike l Q Fine Fine
+  both_refuse : (e : Errno) → Clean l (number e) → Alike l Q (refuse e) (refuse e)
+  both_fine : Q → Alike l Q fine fine
 
 -- a line that is a test: the same test in both, and what follows is only asked once it has passed
 pub test_with : {l : Lent} {Q : Type 0} (e : Errno) {c c' : Bool} {x y : Checked} → Clean l (number e) → c ≡ c' → (c' ≡ false → Alike l Q x y)
@@ -144,7 +142,7 @@ module _ (S : Setting) where
   pub record EntryOk (g : Names) (dir : Inode) (at : ℕ) (e : Entry) : Type 0 where
     pub name : Bytes
     pub is_given : g at ≡ some name
-    pub is_plain : name_check name ≡ Fine
+    pub is_plain : name_check name ≡ fine
     pub in_directory : dir.kind ≡ 1
     pub is_sized : length (name_of e) ≡ e.len
     pub is_stored : name_of e ≡ cond dir.encrypted (padded dir.context.policy.flags name) name

@@ -14,7 +14,6 @@ use Rattle.lists.specs.Bytes.{Bytes, ByteList, same, first_at, is_empty}
 use Rattle.lists.proofs.Tests.{not-false, and_left, and_right, and_cong, if_true, if_false, eqb-true, eqb_other, same_eq, same_inj}
 use Rattle.lists.proofs.ByteStrings.{take_bytes}
 use Rattle.lists.proofs.Tables.{first_at_map, first_at_ends}
-use Rattle.errno.specs.declared.Checked.TheVariants.{Fine}
 use Rattle.errno.proofs.Chains.{skip}
 use Rattle.policy.specs.Policies.{is_master_key_size, name_key_size}
 use Rattle.policy.proofs.Meanings.{master_key_some}
@@ -36,6 +35,7 @@ use Rattle.volume.specs.declared.Met.{Met}
 use Rattle.volume.specs.declared.Met.TheVariants.{Moved, Root}
 use Rattle.volume.proofs.Passed.{key_present_lem}
 use Rattle.volume.proofs.Twin.{identity, Setting, Alike, test, both_fine, key_for, enc_name, enc_key, dir_in, enc_entry, enc, KeyOk, Storable, EntryOk, Inv}
+use Rattle.errno.specs.Refusals.{fine}
 
 -- ---- names
 
@@ -185,7 +185,7 @@ module _ (S : Setting) where
         subst (Storable S dir) (sym c) (record { nonce = ok.inodes_ok p.0 e; bytes = padded_bytes dir.context.policy.flags n b })
 
     -- no stored name is empty
-    pub stored_some : (dir : Inode) (n : Bytes) → name_check n ≡ Fine → is_empty (stored identity v dir n) ≡ false
+    pub stored_some : (dir : Inode) (n : Bytes) → name_check n ≡ fine → is_empty (stored identity v dir n) ≡ false
     unfolding stored encrypted
     stored_some dir n h = go dir.encrypted
       where
@@ -218,7 +218,7 @@ module _ (S : Setting) where
 
     -- ---- tables that requests share
 
-    pub name_part : {l : Lent} (n : Bytes) → Alike l (name_check n ≡ Fine) (name_check n) (name_check n)
+    pub name_part : {l : Lent} (n : Bytes) → Alike l (name_check n ≡ fine) (name_check n) (name_check n)
     unfolding name_check
     name_part n =
         test _ tt refl λ h₁.

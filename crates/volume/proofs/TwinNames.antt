@@ -8,8 +8,7 @@ use lib.ListN.{get_or, set}
 use lib.Seq.{get_or-set_other}
 use lib.Dec.{leb, ltb}
 use Rattle.lists.specs.Bytes.{Bytes, ByteList, first_at}
-use Rattle.errno.specs.declared.Checked.TheVariants.{Fine}
-use Rattle.policy.specs.Policies.{policy_check, read_policy}
+use Rattle.policy.specs.Policies.{policy_check, read_policy, policy_in}
 use Rattle.volume.specs.Volume.{entry_slots, no_inode, plain_inode, encrypted_inode, entry_slot}
 use Rattle.volume.specs.Request.{set_policy, create, link, rename, Lent, no_buffer, done, created, at, outcome}
 use Rattle.volume.specs.Lookup.{lacks_key, inode_at, is_free, free_inode, nonce_holder, entry_at, is_vacant, free_entry, has_entries, is_under_itself, slot_at, Used, dir_of}
@@ -29,6 +28,7 @@ use Rattle.volume.proofs.SoundCore.{none_in}
 use Rattle.volume.proofs.Twin.{Setting, Alike, test, part, last, both_fine, enc_key, dir_in, enc_entry, enc, InodeOk, Inv, StepTwin, Same}
 use Rattle.volume.proofs.TwinLookup.{needed_twin, entry_twin, free_entry_twin, child_twin, under_twin, entry_named_twin, name_part, directory_part}
 use Rattle.volume.proofs.TwinStore.{nonces_set, kept_inv, kept_enc, store_inv, store_enc}
+use Rattle.errno.specs.Refusals.{fine}
 
 module _ (S : Setting) {g : Names} (v : Volume) (ok : Inv S g v) where
   policy_part : {l : Lent} (p : Bytes) → Alike l (Unit {0}) (policy_check p) (policy_check p)
@@ -50,10 +50,10 @@ module _ (S : Setting) {g : Names} (v : Volume) (ok : Inv S g v) where
       go (inode_at v i).encrypted
     where
       is' : List Inode
-      is' = set v.inodes i.0 (encrypted_inode 1 (read_policy p).policy x)
+      is' = set v.inodes i.0 (encrypted_inode 1 (policy_in (read_policy p)) x)
 
       nonces : (j : ℕ) → InodeOk S (get_or is' j no_inode)
-      nonces = nonces_set S v ok i.0 (encrypted_inode 1 (read_policy p).policy x) (λ u. xb)
+      nonces = nonces_set S v ok i.0 (encrypted_inode 1 (policy_in (read_policy p)) x) (λ u. xb)
 
       kept : has_entries v i ≡ false → (j : ℕ) → Used v j
           → dir_in is' (slot_at v j) ≡ dir_of v j
@@ -62,8 +62,8 @@ module _ (S : Setting) {g : Names} (v : Volume) (ok : Inv S g v) where
       -- by whether the inode is encrypted: its policy is compared, or it gets its first one
       go : (c : Bool)
           → Alike no_buffer (StepTwin S (set_policy i p x) g (outcome done [] (cond c (enc S v) (with_inodes (enc S v) is'))) (outcome done [] (cond c v (with_inodes v is'))))
-          (cond c (same_policy_check (inode_at v i) (read_policy p).policy) (first_policy_check (enc S v) i x))
-          (cond c (same_policy_check (inode_at v i) (read_policy p).policy) (first_policy_check v i x))
+          (cond c (same_policy_check (inode_at v i) (policy_in (read_policy p))) (first_policy_check (enc S v) i x))
+          (cond c (same_policy_check (inode_at v i) (policy_in (read_policy p))) (first_policy_check v i x))
       go true = test _ tt refl λ h. both_fine (record { answers = refl; buffers = refl; volumes = refl; inv = ok; right = tt })
       go false =
           test _ tt refl λ h₁.
@@ -104,7 +104,7 @@ module _ (S : Setting) {g : Names} (v : Volume) (ok : Inv S g v) where
         right = tt;
       })
     where
-      needed_nonce : (c : Bool) → Alike no_buffer (Unit {0}) (cond c (nonce_check (enc S v) x) Fine) (cond c (nonce_check v x) Fine)
+      needed_nonce : (c : Bool) → Alike no_buffer (Unit {0}) (cond c (nonce_check (enc S v) x) fine) (cond c (nonce_check v x) fine)
       needed_nonce true = nonce_part x
       needed_nonce false = both_fine tt
 

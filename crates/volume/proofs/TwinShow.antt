@@ -13,11 +13,9 @@ use lib.Dec.{leb}
 use borrow.Author.Tests.{le-leb, leb-true, leb-false}
 use Rattle.lists.specs.Bytes.{Bytes, zeros, laid_over}
 use Rattle.lists.proofs.Tests.{if_true, if_false}
-use Rattle.errno.specs.Refusals.{is_fine}
-use Rattle.errno.specs.declared.Checked.TheVariants.{Fine}
-use Rattle.fscrypt.specs.Names.{read_padded, name_bytes, packed}
+use Rattle.errno.specs.Refusals.{is_fine, check_of}
+use Rattle.fscrypt.specs.Names.{read_padded, name_bytes, packed, name_in}
 use Rattle.fscrypt.specs.Encoded.{letters, encoded}
-use Rattle.fscrypt.specs.declared.NameRead.{NameRead}
 use Rattle.fscrypt.proofs.Padding.{read_padded_padded, name_bytes_packed}
 use Rattle.fscrypt.proofs.Lettering.{length_front, marks, encoded_long}
 use Rattle.fscrypt.proofs.Shown.{length_short, length_encoded}
@@ -35,6 +33,10 @@ use Rattle.volume.specs.declared.Entry.{Entry}
 use Rattle.volume.specs.declared.Volume.{Volume}
 use Rattle.volume.proofs.Twin.{identity, Setting, test, never, both_fine, enc_name, enc_entry, enc, Inv, EntryOk, ShownForm, StepTwin, Same}
 use Rattle.volume.proofs.TwinLookup.{name_back, enc_length, entry_name, present_twin, form_twin, name_key_lem, entry_twin}
+use Rattle.errno.specs.declared.Errno.{Errno}
+use Rattle.fscrypt.specs.declared.Name.{Name}
+use Rattle.std.specs.declared.result.Result.{Result}
+use Rattle.std.specs.declared.result.Result.TheVariants.{Ok}
 
 -- ---- encoded names
 
@@ -147,33 +149,33 @@ module _ (S : Setting) {g : Names} (v : Volume) (ok : Inv S g v) where
       is = entry_name S v.inodes dir x u refl w.is_sized
 
       -- what the two runs read
-      read : NameRead
+      read : Result Name Errno
       read = read_padded flags (S.cipher.decrypt_name (name_key S.cipher (enc S v) dir) s)
 
-      read' : NameRead
+      read' : Result Name Errno
       read' = read_padded flags (name_of x)
 
-      read_is' : dir.encrypted ≡ true → read' ≡ record { checked = Fine; name = packed w.name }
+      read_is' : dir.encrypted ≡ true → read' ≡ Ok (packed w.name)
       read_is' c = ap (read_padded flags) (w.is_stored ∙ if_true _ _ c) ∙ read_padded_padded flags w.name w.is_plain
 
-      read_is : dir.encrypted ≡ true → key_present v dir ≡ true → read ≡ record { checked = Fine; name = packed w.name }
+      read_is : dir.encrypted ≡ true → key_present v dir ≡ true → read ≡ Ok (packed w.name)
       read_is c h =
           ap (read_padded flags)
           (ap₂ (λ (k y : Bytes). S.cipher.decrypt_name k y) (name_key_lem S v ok dir h) (is ∙ if_true _ _ c) ∙ name_back S dir (name_of x) (w.storable c))
           ∙ read_is' c
 
-      name_of_lem : (r : NameRead) → r ≡ record { checked = Fine; name = packed w.name } → name_bytes r.name ≡ w.name
-      name_of_lem r q = ap (λ (y : NameRead). name_bytes y.name) q ∙ name_bytes_packed w.name
+      name_of_lem : (r : Result Name Errno) → r ≡ Ok (packed w.name) → name_bytes (name_in r) ≡ w.name
+      name_of_lem r q = ap (λ (y : Result Name Errno). name_bytes (name_in y)) q ∙ name_bytes_packed w.name
 
-      fine_of : (r : NameRead) → r ≡ record { checked = Fine; name = packed w.name } → not (is_fine r.checked) ≡ false
-      fine_of r q = ap (λ (y : NameRead). not (is_fine y.checked)) q
+      fine_of : (r : Result Name Errno) → r ≡ Ok (packed w.name) → not (is_fine (check_of r)) ≡ false
+      fine_of r q = ap (λ (y : Result Name Errno). not (is_fine (check_of y))) q
 
       go : (c : Bool) → dir.encrypted ≡ c → (k k' : Bool) → k ≡ k' → key_present v dir ≡ k'
           → ShownTwin e.0 b (cond c (cond k' Decrypted Encoded) Plain)
-          (cond c (cond k (name_bytes read.name) (encoded s e.0)) s) (cond c (cond k' (name_bytes read'.name) (encoded (name_of x) e.0)) (name_of x))
-          (c && (k && not (is_fine read.checked))) (c && (k' && not (is_fine read'.checked)))
+          (cond c (cond k (name_bytes (name_in read)) (encoded s e.0)) s) (cond c (cond k' (name_bytes (name_in read')) (encoded (name_of x) e.0)) (name_of x))
+          (c && (k && not (is_fine (check_of read)))) (c && (k' && not (is_fine (check_of read'))))
       go true c true true q h =
-          given_twin e.0 b Decrypted w.name (name_bytes read.name) (name_bytes read'.name) _ _ decrypted_shown w.is_given
+          given_twin e.0 b Decrypted w.name (name_bytes (name_in read)) (name_bytes (name_in read')) _ _ decrypted_shown w.is_given
           (name_of_lem read (read_is c h)) (name_of_lem read' (read_is' c)) (fine_of read (read_is c h)) (fine_of read' (read_is' c))
         where
           decrypted_shown : Decrypted ≢ Encoded

@@ -11,7 +11,6 @@ use lib.Seq.{take-append_seam, drop-append_seam}
 use Rattle.lists.specs.Bytes.{Bytes, ByteList, zeros}
 use Rattle.lists.proofs.Tests.{if_false, eqb_self, eqb_other}
 use Rattle.lists.proofs.Tables.{map_set, map_agree, all_set}
-use Rattle.errno.specs.declared.Checked.TheVariants.{Fine}
 use Rattle.fscrypt.specs.Names.{name_check}
 use Rattle.volume.specs.Volume.{no_inode, no_entry, name_of, entry_slot}
 use Rattle.volume.specs.Lookup.{lacks_key, inode_at, is_vacant, slot_at, Used, dir_of}
@@ -26,6 +25,7 @@ use Rattle.volume.specs.declared.Volume.{Volume}
 use Rattle.volume.proofs.SoundCore.{slot_name}
 use Rattle.volume.proofs.Twin.{identity, Setting, enc_name, enc_key, dir_in, enc_entry, enc, InodeOk, Storable, EntryOk, Inv}
 use Rattle.volume.proofs.TwinLookup.{enc_length, stored_twin, stored_is, stored_storable, stored_some}
+use Rattle.errno.specs.Refusals.{fine}
 
 -- ---- given names: one entry is given one
 
@@ -85,7 +85,7 @@ module _ (S : Setting) {g : Names} (v : Volume) (ok : Inv S g v) where
 
     -- and a name is stored in the entry e
     module _ (p : InodeNumber) (e : EntryNumber) (i : InodeNumber) (n : Bytes) (here : get_or is' p.0 no_inode ≡ inode_at v p)
-        (kind : (inode_at v p).kind ≡ 1) (good : name_check n ≡ Fine) (nb : ByteList n) (key : lacks_key v (inode_at v p) ≡ false) where
+        (kind : (inode_at v p).kind ≡ 1) (good : name_check n ≡ fine) (nb : ByteList n) (key : lacks_key v (inode_at v p) ≡ false) where
       abbrev slot : Entry
       slot = entry_slot p i (stored identity v (inode_at v p) n)
 

@@ -14,10 +14,9 @@ use Rattle.lists.proofs.Copies.{laid_read}
 use Rattle.policy.specs.Policies.{name_key_size}
 use Rattle.policy.specs.Meanings.{MasterKeySize}
 use Rattle.fscrypt.specs.Cipher.{Cipher}
-use Rattle.fscrypt.specs.Names.{encrypted, padded, name_bytes}
+use Rattle.fscrypt.specs.Names.{encrypted, padded, name_bytes, name_in}
 use Rattle.fscrypt.specs.Encoded.{encoded}
 use Rattle.fscrypt.specs.Meanings.{Multiple, PaddedTo, ReadAs}
-use Rattle.fscrypt.specs.declared.NameRead.{NameRead}
 use Rattle.fscrypt.proofs.Padding.{name_bytes_packed}
 use Rattle.fscrypt.proofs.PaddingMeanings.{padded_means, read_padded_read}
 use Rattle.volume.specs.Volume.{key_slots, key_bytes, name_of}
@@ -37,6 +36,9 @@ use Rattle.volume.proofs.Kept.{was_fine, was_done}
 use Rattle.volume.proofs.Meanings.{meanings}
 use Rattle.volume.proofs.DoneWhenTables.{show_when}
 use Rattle.volume.proofs.DoneWhen.{done_when}
+use Rattle.errno.specs.declared.Errno.{Errno}
+use Rattle.fscrypt.specs.declared.Name.{Name}
+use Rattle.std.specs.declared.result.Result.{Result}
 
 -- ---- the key of a descriptor
 
@@ -140,7 +142,7 @@ module _ (C : Cipher) (v : Volume) (s : Sound v) (e : EntryNumber) (b : Bytes) (
         shown_in_lem Decrypted read.0 (((meanings v s).form_decrypted dir).1 (f, present))
             (if_true _ _ f
             ∙ if_true _ _ (((meanings v s).key_present_lem dir).1 present)
-            ∙ ap (λ (r : NameRead). name_bytes r.name) (read_padded_read _ q _ M read.0 read.1)
+            ∙ ap (λ (r : Result Name Errno). name_bytes (name_in r)) (read_padded_read _ q _ M read.0 read.1)
             ∙ name_bytes_packed read.0),
       )
 

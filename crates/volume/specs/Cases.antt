@@ -2,11 +2,10 @@
 use Rattle.std.specs.Prelude.{ℕ, ◌≡◌, List, [], ◌∷◌, ◌++◌, length, replicate}
 use Rattle.lists.specs.Bytes.{Bytes, zeros}
 use Rattle.errno.specs.declared.Errno.TheVariants.{EINVAL}
-use Rattle.errno.specs.declared.Checked.{Checked}
-use Rattle.errno.specs.declared.Checked.TheVariants.{Fine, Refused}
 use Rattle.policy.specs.Policies.{policy_check}
 use Rattle.fscrypt.specs.Names.{padded_length}
 use Rattle.fscrypt.specs.Encoded.{encoded}
+use Rattle.errno.specs.Refusals.{Checked, fine, refuse}
 
 pub data Case : Type 0 where
   -- a name of this length, under these flags, is padded to this length
@@ -36,7 +35,7 @@ starred_cases =
     ∷ padding 225 3 225
     ∷ padding 252 0 252
     ∷ keyless (zeros 16) (replicate 22 65)
-    ∷ policy (0x00 ∷ 0x01 ∷ 0x04 ∷ 0x03 ∷ []) Fine
-    ∷ policy (0x00 ∷ 0x01 ∷ 0x04 ∷ 0x04 ∷ []) (Refused EINVAL)
-    ∷ policy (0x00 ∷ 0x05 ∷ 0x06 ∷ 0x00 ∷ []) (Refused EINVAL)
+    ∷ policy (0x00 ∷ 0x01 ∷ 0x04 ∷ 0x03 ∷ []) fine
+    ∷ policy (0x00 ∷ 0x01 ∷ 0x04 ∷ 0x04 ∷ []) (refuse EINVAL)
+    ∷ policy (0x00 ∷ 0x05 ∷ 0x06 ∷ 0x00 ∷ []) (refuse EINVAL)
     ∷ []

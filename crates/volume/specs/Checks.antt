@@ -2,12 +2,10 @@
 -- Sentences in quotation marks are document 01's, in its words. Assumes nothing.
 use Rattle.std.specs.Prelude.{ℕ, Bool, cond, not, ◌&&◌, ◌||◌, eqb, leb, ltb}
 use Rattle.lists.specs.Bytes.{Bytes}
-use Rattle.errno.specs.Refusals.{◌⇒◌, ◌>>◌}
+use Rattle.errno.specs.Refusals.{Checked, fine, ◌⇒◌, ◌>>◌}
 use Rattle.errno.specs.declared.Errno.{Errno}
 use Rattle.errno.specs.declared.Errno.TheVariants.{EPERM, ENOENT, EEXIST, EXDEV, ENOTDIR, EINVAL, ENOSPC, ERANGE, ENOTEMPTY, ENODATA, ENOTUNIQ, EUCLEAN, ENOKEY}
-use Rattle.errno.specs.declared.Checked.{Checked}
-use Rattle.errno.specs.declared.Checked.TheVariants.{Fine}
-use Rattle.policy.specs.Policies.{same_policy, policy_check, read_policy}
+use Rattle.policy.specs.Policies.{same_policy, policy_check, read_policy, policy_in}
 use Rattle.policy.specs.declared.Policy.{Policy}
 use Rattle.fscrypt.specs.Cipher.{Cipher}
 use Rattle.fscrypt.specs.Names.{name_check}
@@ -26,7 +24,7 @@ unfoldable pub directory_check : Volume → InodeNumber → Checked
 directory_check v p = do
   is_free (inode_at v p) ⇒ ENOENT
   not (is_directory (inode_at v p)) ⇒ ENOTDIR
-  Fine
+  fine
 
 -- the policy refusal, document 00: "an encrypted folder would gain a regular file, folder or symlink that lacks that folder's policy"
 unfoldable pub is_policy_refused : Inode → Inode → Bool
@@ -53,7 +51,7 @@ is_nonce_needed dir kind = dir.encrypted && leb kind 3
 unfoldable pub nonce_check : Volume → Bytes → Checked
 nonce_check v x = do
   is_borne v x ⇒ ENOTUNIQ
-  Fine
+  fine
 
 -- ---- the requests
 
@@ -63,19 +61,19 @@ add_key_check v d n = do
   is_bad_key_length n ⇒ EINVAL
   ltb (key_slot_of v d) key_slots ⇒ EEXIST
   leb key_slots (free_key_slot v) ⇒ ENOSPC
-  Fine
+  fine
 
 -- "Remove key: held or not."
 unfoldable pub remove_key_check : Volume → Bytes → Checked
 remove_key_check v d = do
   leb key_slots (key_slot_of v d) ⇒ ENOKEY
-  Fine
+  fine
 
 -- ".. if encrypted: equal is a success that changes nothing, else EEXIST" (document 01)
 abbrev pub same_policy_check : Inode → Policy → Checked
 same_policy_check node p = do
   not (same_policy node.context.policy p) ⇒ EEXIST
-  Fine
+  fine
 
 -- ".. then root, non-folder, nonempty, nonce" (document 01)
 abbrev pub first_policy_check : Volume → InodeNumber → Bytes → Checked
@@ -91,21 +89,21 @@ set_policy_check v i p x =
     let node = inode_at v i in do
       is_free node ⇒ ENOENT
       policy_check p
-      cond node.encrypted (same_policy_check node (read_policy p).policy) (first_policy_check v i x)
+      cond node.encrypted (same_policy_check node (policy_in (read_policy p))) (first_policy_check v i x)
 
 -- "Get policy: thing, context."
 unfoldable pub get_policy_check : Volume → InodeNumber → Checked
 get_policy_check v i = do
   is_free (inode_at v i) ⇒ ENOENT
   not (inode_at v i).encrypted ⇒ ENODATA
-  Fine
+  fine
 
 -- "Remove: place, entries."
 unfoldable pub remove_check : Volume → EntryNumber → Checked
 remove_check v e = do
   is_vacant (entry_at v e) ⇒ ENOENT
   has_entries v (entry_at v e).inode ⇒ ENOTEMPTY
-  Fine
+  fine
 
 -- inode i of directory p goes to directory q, and inode j of q to p, each stage for both sides: key, policy, directory under itself
 abbrev pub swap_check : Volume → InodeNumber → InodeNumber → InodeNumber → InodeNumber → Checked
@@ -116,7 +114,7 @@ swap_check v p i q j = do
   is_policy_refused (inode_at v q) (inode_at v i) ⇒ policy_refusal
   is_under_itself v i q ⇒ EINVAL
   is_under_itself v j p ⇒ EINVAL
-  Fine
+  fine
 
 -- "Rename and exchange need the key of both parents, if encrypted"; "An exchange checks each folder it moves."
 unfoldable pub exchange_check : Volume → EntryNumber → EntryNumber → Checked
@@ -136,7 +134,7 @@ block_check v i n =
       not (eqb node.kind 2) ⇒ EINVAL
       not node.encrypted ⇒ ENODATA
       lacks_key v node ⇒ ENOKEY
-      Fine
+      fine
 
 -- "Order with names: empty, too long, bad byte or dot name; kind; thing or place; parent exists; parent is a folder; linked folder; key; policy; folder
 -- under itself; name taken; nonce; room. .. Each request skips what doesn't apply; find looks for its match after the key."
@@ -144,10 +142,10 @@ block_check v i n =
 -- ".. nonce; room": the end of create's table
 abbrev pub room_check : Volume → InodeNumber → ℕ → Bytes → Checked
 room_check v p kind x = do
-  cond (is_nonce_needed (inode_at v p) kind) (nonce_check v x) Fine
+  cond (is_nonce_needed (inode_at v p) kind) (nonce_check v x) fine
   leb inode_slots (free_inode v) ⇒ ENOSPC
   leb entry_slots (free_entry v) ⇒ ENOSPC
-  Fine
+  fine
 
 module _ (C : Cipher) where
   unfoldable pub create_check : Volume → InodeNumber → ℕ → Bytes → Bytes → Checked
@@ -170,7 +168,7 @@ module _ (C : Cipher) where
         is_policy_refused dir node ⇒ policy_refusal
         is_taken v p (stored C v dir n) ⇒ EEXIST
         leb entry_slots (free_entry v) ⇒ ENOSPC
-        Fine
+        fine
 
   unfoldable pub link_check : Volume → InodeNumber → InodeNumber → Bytes → Checked
   link_check v i p n =
@@ -190,7 +188,7 @@ module _ (C : Cipher) where
         is_policy_refused dir (inode_at v moved) ⇒ policy_refusal
         is_under_itself v moved p ⇒ EINVAL
         is_taken v p (stored C v dir n) ⇒ EEXIST
-        Fine
+        fine
 
   unfoldable pub rename_check : Volume → EntryNumber → InodeNumber → Bytes → Checked
   rename_check v e p n =
@@ -206,7 +204,7 @@ module _ (C : Cipher) where
         directory_check v p
         lacks_key v dir ⇒ ENOKEY
         leb entry_slots (entry_named v p (stored C v dir n)) ⇒ ENOENT
-        Fine
+        fine
 
   -- "Show: buffer, place, name."
   unfoldable pub show_check : Volume → EntryNumber → ℕ → Checked
@@ -215,4 +213,4 @@ module _ (C : Cipher) where
         ltb room 255 ⇒ ERANGE
         is_vacant x ⇒ ENOENT
         is_unreadable C v (inode_at v x.parent) (name_of x) ⇒ EUCLEAN
-        Fine
+        fine

@@ -1,13 +1,12 @@
 -- What the tests in the definitions of a volume mean: each that is named here, and on which a table of checks, the rules of a sound volume, the policy clause or the
 -- two runs lean, is equal, in both directions, to a plain predicate in which no test stands; and what the views of requests and answers see. What a shown name has to pass is said in DoneWhen.antt: ShowDone.
 -- Sentences in quotation marks are those of documents 00 and 01, in their words. Assumes nothing.
-use Rattle.std.specs.Prelude.{ℕ, ◌≤◌, ◌<◌, ◌≡◌, ◌≢◌, ◌⊎◌, ◌↔◌, true, false, replicate, ltb, leb}
+use Rattle.std.specs.Prelude.{ℕ, ◌≤◌, ◌<◌, ◌≡◌, ◌≢◌, ◌⊎◌, ◌↔◌, true, false, replicate, ltb, leb, Ok, Err}
 use Rattle.std.proofs.Math.Option.{some}
 use Rattle.lists.specs.Bytes.{Bytes}
-use Rattle.errno.specs.Refusals.{number}
+use Rattle.errno.specs.Refusals.{fine, refuse, number}
 use Rattle.errno.specs.declared.Errno.{Errno}
 use Rattle.errno.specs.declared.Errno.TheVariants.{ENOENT, ENOTDIR}
-use Rattle.errno.specs.declared.Checked.TheVariants.{Fine, Refused}
 use Rattle.policy.specs.Policies.{policy_bytes}
 use Rattle.policy.specs.Meanings.{MasterKeySize}
 use Rattle.volume.specs.Volume.{key_slots, inode_slots, entry_slots, no_key, no_inode, no_entry, root_number, name_of}
@@ -23,10 +22,6 @@ use Rattle.volume.specs.declared.Inode.{Inode}
 use Rattle.volume.specs.declared.Volume.{Volume}
 use Rattle.volume.specs.declared.Form.TheVariants.{Plain as IsPlain, Decrypted as IsDecrypted, Encoded as IsEncoded}
 use Rattle.volume.specs.declared.ShownEntry.{ShownEntry as AnsweredEntry}
-use Rattle.volume.specs.declared.Reply.TheVariants.{Done, Refused as NotDone}
-use Rattle.volume.specs.declared.CreateAnswer.TheVariants.{Created, Refused as NotCreated}
-use Rattle.volume.specs.declared.EntryAnswer.TheVariants.{At, Refused as Nowhere}
-use Rattle.volume.specs.declared.ShowAnswer.TheVariants.{Shown, Refused as NotShown}
 use Rattle.volume.specs.Request.{add_key, show, seal, unseal, key_buffer, name_buffer, block_buffer, lends, Plain, Decrypted, Encoded, ShownEntry, Answer, refused, done, created, at, policy_is, shown, refusal_in, shown_in, replied, create_answered, entry_answered, policy_answered, form_answered, show_answered}
 
 -- the least number that ..
@@ -91,19 +86,19 @@ NameTaken v p s = (e : ℕ) × EntryNamed v p s e
 
 -- what each case of the code's answers stands for
 pub record AnswersStand : Type 0 where
-  pub done_is : replied Done ≡ done
-  pub done_refused : (e : Errno) → replied (NotDone e) ≡ refused (number e)
-  pub created_is : (i : InodeNumber) (e : EntryNumber) → create_answered (Created i e) ≡ created i e
-  pub create_refused : (e : Errno) → create_answered (NotCreated e) ≡ refused (number e)
-  pub entry_is : (e : EntryNumber) → entry_answered (At e) ≡ at e
-  pub entry_refused : (e : Errno) → entry_answered (Nowhere e) ≡ refused (number e)
-  pub policy_is_lem : (b : Bytes) → policy_answered Done b ≡ policy_is b
-  pub policy_refused : (e : Errno) (b : Bytes) → policy_answered (NotDone e) b ≡ refused (number e)
+  pub done_is : replied fine ≡ done
+  pub done_refused : (e : Errno) → replied (refuse e) ≡ refused (number e)
+  pub created_is : (i : InodeNumber) (e : EntryNumber) → create_answered (Ok (record { inode = i; entry = e })) ≡ created i e
+  pub create_refused : (e : Errno) → create_answered (Err e) ≡ refused (number e)
+  pub entry_is : (e : EntryNumber) → entry_answered (Ok e) ≡ at e
+  pub entry_refused : (e : Errno) → entry_answered (Err e) ≡ refused (number e)
+  pub policy_is_lem : (b : Bytes) → policy_answered fine b ≡ policy_is b
+  pub policy_refused : (e : Errno) (b : Bytes) → policy_answered (refuse e) b ≡ refused (number e)
   -- "the form being plain, read with the key, or shown without it"
   pub forms : (form_answered IsPlain ≡ Plain) × (form_answered IsDecrypted ≡ Decrypted) × (form_answered IsEncoded ≡ Encoded)
   pub shown_is : (s : AnsweredEntry)
-      → show_answered (Shown s) ≡ shown (record { parent = s.parent; inode = s.inode; kind = s.kind; form = form_answered s.form; len = s.len })
-  pub show_refused : (e : Errno) → show_answered (NotShown e) ≡ refused (number e)
+      → show_answered (Ok s) ≡ shown (record { parent = s.parent; inode = s.inode; kind = s.kind; form = form_answered s.form; len = s.len })
+  pub show_refused : (e : Errno) → show_answered (Err e) ≡ refused (number e)
 
 -- what a request lends, what an answer refuses with, and which entry it shows
 pub record ViewsMean : Type 0 where
@@ -150,9 +145,9 @@ pub record Meanings (v : Volume) : Type 0 where
   pub inode_free : (i : InodeNumber) → (is_free (inode_at v i) ≡ true) ↔ InodeFree v i.0
   pub directory : (i : InodeNumber) → (is_directory (inode_at v i) ≡ true) ↔ ((inode_at v i).kind ≡ 1)
   -- "parent exists; parent is a folder"
-  pub parent_fine : (p : InodeNumber) → (directory_check v p ≡ Fine) ↔ ((inode_at v p).kind ≡ 1)
-  pub parent_missing : (p : InodeNumber) → (directory_check v p ≡ Refused ENOENT) ↔ InodeFree v p.0
-  pub parent_no_directory : (p : InodeNumber) → (directory_check v p ≡ Refused ENOTDIR) ↔ (((inode_at v p).kind ≢ 0) × ((inode_at v p).kind ≢ 1))
+  pub parent_fine : (p : InodeNumber) → (directory_check v p ≡ fine) ↔ ((inode_at v p).kind ≡ 1)
+  pub parent_missing : (p : InodeNumber) → (directory_check v p ≡ refuse ENOENT) ↔ InodeFree v p.0
+  pub parent_no_directory : (p : InodeNumber) → (directory_check v p ≡ refuse ENOTDIR) ↔ (((inode_at v p).kind ≢ 0) × ((inode_at v p).kind ≢ 1))
   pub lowest_inode : (i : ℕ) → i < inode_slots → (free_inode v ≡ i) ↔ Least (InodeFree v) i
   pub inodes_full : (leb inode_slots (free_inode v) ≡ true) ↔ ((i : ℕ) → i < inode_slots → InodeFree v i → ⊥)
   pub nonce_borne : (x : Bytes) → (is_borne v x ≡ true) ↔ NonceBorne v x

@@ -2,7 +2,6 @@
 -- Assumes nothing.
 use Rattle.std.specs.Prelude.{◌≡◌, ◌↔◌, false}
 use Rattle.lists.specs.Bytes.{Bytes}
-use Rattle.errno.specs.declared.Checked.TheVariants.{Fine}
 use Rattle.policy.specs.Policies.{policy_check}
 use Rattle.fscrypt.specs.Cipher.{Cipher}
 use Rattle.fscrypt.specs.Names.{name_check}
@@ -12,6 +11,7 @@ use Rattle.volume.specs.Checks.{directory_check}
 use Rattle.volume.specs.Step.{step}
 use Rattle.ids.specs.declared.InodeNumber.{InodeNumber}
 use Rattle.volume.specs.declared.Volume.{Volume}
+use Rattle.errno.specs.Refusals.{fine}
 
 -- the request is refused with EPERM
 abbrev pub NotPermitted : Cipher → Volume → Request → Type 0
@@ -19,15 +19,15 @@ NotPermitted C v r = (step C v r).answer ≡ refused 1
 
 -- the earlier checks have passed, and what is to be linked is a directory
 pub record LinksDirectory (v : Volume) (i p : InodeNumber) (n : Bytes) : Type 0 where
-  pub name : name_check n ≡ Fine
+  pub name : name_check n ≡ fine
   pub inode : is_free (inode_at v i) ≡ false
-  pub parent : directory_check v p ≡ Fine
+  pub parent : directory_check v p ≡ fine
   pub directory : (inode_at v i).kind ≡ 1
 
 -- the earlier checks have passed, and what has no policy yet is the root
 pub record SetsOnRoot (v : Volume) (i : InodeNumber) (policy : Bytes) : Type 0 where
   pub inode : is_free (inode_at v i) ≡ false
-  pub bytes : policy_check policy ≡ Fine
+  pub bytes : policy_check policy ≡ fine
   pub first : (inode_at v i).encrypted ≡ false
   pub root : i.0 ≡ 0
 

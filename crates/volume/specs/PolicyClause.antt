@@ -4,7 +4,6 @@
 use Rattle.std.specs.Prelude.{ℕ, ◌≤◌, ◌<◌, ◌≡◌, ◌⊎◌, ◌↔◌, true, false}
 use mathlib.Core.List.{List, Memᴰ}
 use Rattle.lists.specs.Bytes.{Bytes}
-use Rattle.errno.specs.declared.Checked.TheVariants.{Fine}
 use Rattle.fscrypt.specs.Cipher.{Cipher}
 use Rattle.fscrypt.specs.Names.{name_check}
 use Rattle.volume.specs.Request.{Request, rename, link, exchange, refused, AllTyped}
@@ -17,6 +16,7 @@ use Rattle.ids.specs.declared.InodeNumber.{InodeNumber}
 use Rattle.ids.specs.declared.EntryNumber.{EntryNumber}
 use Rattle.volume.specs.declared.Inode.{Inode}
 use Rattle.volume.specs.declared.Volume.{Volume}
+use Rattle.errno.specs.Refusals.{fine}
 
 -- an encrypted directory, and a regular file, directory or symlink that lacks its policy; kind 0 is a free record, which no entry of a sound volume holds
 pub record WouldLack (dir node : Inode) : Type 0 where
@@ -27,16 +27,16 @@ pub record WouldLack (dir node : Inode) : Type 0 where
 -- ---- the earlier checks of each request, in their order
 
 pub record LinkReady (v : Volume) (i p : InodeNumber) (n : Bytes) : Type 0 where
-  pub name : name_check n ≡ Fine
+  pub name : name_check n ≡ fine
   pub inode : is_free (inode_at v i) ≡ false
-  pub parent : directory_check v p ≡ Fine
+  pub parent : directory_check v p ≡ fine
   pub not_directory : is_directory (inode_at v i) ≡ false
   pub key : lacks_key v (inode_at v p) ≡ false
 
 pub record RenameReady (v : Volume) (e : EntryNumber) (p : InodeNumber) (n : Bytes) : Type 0 where
-  pub name : name_check n ≡ Fine
+  pub name : name_check n ≡ fine
   pub entry : is_vacant (entry_at v e) ≡ false
-  pub parent : directory_check v p ≡ Fine
+  pub parent : directory_check v p ≡ fine
   pub old_key : lacks_key v (inode_at v (entry_at v e).parent) ≡ false
   pub key : lacks_key v (inode_at v p) ≡ false
 

@@ -1,25 +1,19 @@
 -- The requests and their answers, document 01, "What may be asked", and the views by which definitions and proofs go: what a request lends, what an answer refuses with
 -- or shows. A further request or answer is a row in each.
 -- Sentences in quotation marks are document 01's, in its words. Assumes nothing.
-use Rattle.std.specs.Prelude.{ℕ, ◌≡◌, length}
+use Rattle.std.specs.Prelude.{ℕ, ◌≡◌, length, Result, Ok, Err}
 use mathlib.Core.List.{List, [], ◌∷◌, Memᴰ}
 use Rattle.std.proofs.Math.Option.{Option, some, none}
 use Rattle.lists.specs.Bytes.{Bytes, ByteList}
-use Rattle.errno.specs.Refusals.{number}
+use Rattle.errno.specs.Refusals.{Checked, number}
+use Rattle.errno.specs.declared.Errno.{Errno}
 use Rattle.ids.specs.declared.InodeNumber.{InodeNumber}
 use Rattle.ids.specs.declared.EntryNumber.{EntryNumber}
 use Rattle.volume.specs.declared.Volume.{Volume}
 use Rattle.volume.specs.declared.Form.{Form as AnsweredForm}
 use Rattle.volume.specs.declared.Form.TheVariants.{Plain as IsPlain, Decrypted as IsDecrypted, Encoded as IsEncoded}
 use Rattle.volume.specs.declared.ShownEntry.{ShownEntry as AnsweredEntry}
-use Rattle.volume.specs.declared.Reply.{Reply}
-use Rattle.volume.specs.declared.Reply.TheVariants.{Done, Refused as NotDone}
-use Rattle.volume.specs.declared.CreateAnswer.{CreateAnswer}
-use Rattle.volume.specs.declared.CreateAnswer.TheVariants.{Created, Refused as NotCreated}
-use Rattle.volume.specs.declared.EntryAnswer.{EntryAnswer}
-use Rattle.volume.specs.declared.EntryAnswer.TheVariants.{At, Refused as Nowhere}
-use Rattle.volume.specs.declared.ShowAnswer.{ShowAnswer}
-use Rattle.volume.specs.declared.ShowAnswer.TheVariants.{Shown, Refused as NotShown}
+use Rattle.volume.specs.declared.Created.{Created}
 
 -- all that a request is given, the bytes of a lent buffer included
 pub data Request : Type 0 where
@@ -158,23 +152,23 @@ pub record Outcome : Type 0 where
 abbrev pub outcome : Answer → Bytes → Volume → Outcome
 outcome a b v = record { answer = a; buffer = b; volume = v }
 
--- ---- the answers that code gives, each an enum of its own, as these
+-- ---- the answers that code gives, each a result, as these
 
-abbrev pub replied : Reply → Answer
-replied Done = done
-replied (NotDone e) = refused (number e)
+abbrev pub replied : Checked → Answer
+replied (Ok u) = done
+replied (Err e) = refused (number e)
 
-abbrev pub create_answered : CreateAnswer → Answer
-create_answered (Created i e) = created i e
-create_answered (NotCreated e) = refused (number e)
+abbrev pub create_answered : Result Created Errno → Answer
+create_answered (Ok c) = created c.inode c.entry
+create_answered (Err e) = refused (number e)
 
-abbrev pub entry_answered : EntryAnswer → Answer
-entry_answered (At e) = at e
-entry_answered (Nowhere e) = refused (number e)
+abbrev pub entry_answered : Result EntryNumber Errno → Answer
+entry_answered (Ok n) = at n
+entry_answered (Err e) = refused (number e)
 
-abbrev pub policy_answered : Reply → Bytes → Answer
-policy_answered Done p = policy_is p
-policy_answered (NotDone e) p = refused (number e)
+abbrev pub policy_answered : Checked → Bytes → Answer
+policy_answered (Ok u) p = policy_is p
+policy_answered (Err e) p = refused (number e)
 
 -- plain; read with the key; shown without it
 abbrev pub form_answered : AnsweredForm → Form
@@ -185,6 +179,6 @@ form_answered IsEncoded = Encoded
 abbrev pub entry_shown : AnsweredEntry → ShownEntry
 entry_shown s = record { parent = s.parent; inode = s.inode; kind = s.kind; form = form_answered s.form; len = s.len }
 
-abbrev pub show_answered : ShowAnswer → Answer
-show_answered (Shown s) = shown (entry_shown s)
-show_answered (NotShown e) = refused (number e)
+abbrev pub show_answered : Result AnsweredEntry Errno → Answer
+show_answered (Ok s) = shown (entry_shown s)
+show_answered (Err e) = refused (number e)

@@ -1,11 +1,9 @@
 -- What each request does: its check, and where that is fine its effect.
 -- Sentences in quotation marks are document 01's, in its words. Assumes nothing.
-use Rattle.std.specs.Prelude.{ℕ, cond, List, [], length, set}
+use Rattle.std.specs.Prelude.{ℕ, cond, List, [], length, set, Ok, Err}
 use Rattle.lists.specs.Bytes.{Bytes, laid_over}
-use Rattle.errno.specs.Refusals.{number}
-use Rattle.errno.specs.declared.Checked.{Checked}
-use Rattle.errno.specs.declared.Checked.TheVariants.{Fine, Refused}
-use Rattle.policy.specs.Policies.{policy_bytes, read_policy}
+use Rattle.errno.specs.Refusals.{Checked, number}
+use Rattle.policy.specs.Policies.{policy_bytes, read_policy, policy_in}
 use Rattle.fscrypt.specs.Cipher.{Cipher}
 use Rattle.volume.specs.Volume.{no_key, no_inode, no_entry, plain_inode, encrypted_inode, key_slot, entry_slot, name_of}
 use Rattle.volume.specs.Request.{Request, add_key, remove_key, set_policy, get_policy, create, link, rename, exchange, remove, find, show, seal, unseal, lends, lent_bytes, refused, done, created, at, policy_is, shown, Outcome, outcome}
@@ -67,7 +65,7 @@ module _ (C : Cipher) where
   effect v (remove_key d) = outcome done [] (with_keys v (set v.keys (key_slot_of v d) no_key))
   -- a first policy is set on a directory, as was checked
   effect v (set_policy i p x) =
-      outcome done [] (cond (inode_at v i).encrypted v (with_inodes v (set v.inodes i.0 (encrypted_inode 1 (read_policy p).policy x))))
+      outcome done [] (cond (inode_at v i).encrypted v (with_inodes v (set v.inodes i.0 (encrypted_inode 1 (policy_in (read_policy p)) x))))
   effect v (get_policy i) = outcome (policy_is (policy_bytes (inode_at v i).context.policy)) [] v
   effect v (create p kind n x) =
       let dir = inode_at v p in
@@ -101,8 +99,8 @@ module _ (C : Cipher) where
 
 -- "A refusal returns its number alone and alters nothing."
 unfoldable pub settle : Volume → Bytes → Checked → Outcome → Outcome
-settle v b (Refused e) o = outcome (refused (number e)) b v
-settle v b Fine o = o
+settle v b (Err e) o = outcome (refused (number e)) b v
+settle v b (Ok _) o = o
 
 module _ (C : Cipher) where
   unfoldable pub step : Volume → Request → Outcome

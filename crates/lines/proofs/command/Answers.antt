@@ -1,38 +1,23 @@
--- `command`: the request's word, its words, the request. Assumes nothing.
+-- `command`: the request that the words make, or the word for none. Assumes nothing.
 use native.Mathlib.Omega.{arith}
-use mathlib.Core.Path.{ap}
-use lib.ListN.{length}
-use Rattle.script.specs.declared.Args.{Args}
-use Rattle.script.proofs.Lines.{after_word_length}
-use Rattle.script.proofs.Taking.{read_words_len}
-use Rattle.lines.proofs.Answering.{overlong, directs}
+use mathlib.Core.Path.{sym}
+use lib.Seq.{length-take-le}
+use Rattle.script.specs.Commands.{read_in}
+use Rattle.lines.specs.Lines.{respond, commanded}
+use Rattle.lines.proofs.Answering.{words_len}
 use Rattle.lines.proofs.command.Goals as goal
 
-pub returns-then-line-gt131072 : goal.returns-then-line-gt131072
-returns-then-line-gt131072 c =
-    let s = c.args in
-    rw (overlong s.v s.line.now c.if-line-gt131072.true) c.malformed_line.ensures
+pub slice_bounds-perform-end : goal.slice_bounds-perform-end
+slice_bounds-perform-end c = omega (arith, words_len c.args.line.now (c.in-Some.verb, read_in c.words_of.new.payload c.in-Some.a) (sym c.in-Some.ensures), c.words_of.auto.payload)
 
-pub read_words-a-requires : goal.read_words-a-requires
-read_words-a-requires c =
-    omega (arith, ap length c.after_word.ensures, after_word_length c.args.line.now)
+pub slice_bounds-perform-end-in-Some : goal.slice_bounds-perform-end-in-Some
+slice_bounds-perform-end-in-Some c =
+    sym (length-take-le _ _ (omega (arith, words_len c.args.line.now (c.in-Some.verb, read_in c.words_of.new.payload c.in-Some.a) (sym c.in-Some.ensures), c.words_of.auto.payload)))
 
-pub direct-requires : goal.direct-requires
-direct-requires c =
-    let shape = c.shape_of-shape in
-    let rest = c.after_word in
-    let read = c.read_words-a in
-    let k = after_word_length c.args.line.now in
-    (omega arith, omega (arith, ap (λ (x : Args). x.len) read.ensures.0, read_words_len shape.result rest.result.now, ap length rest.ensures))
+pub returns-in-Some : goal.returns-in-Some
+unfolding commanded respond
+returns-in-Some c = rw (← c.in-Some.ensures) c.perform.ensures
 
-pub returns : goal.returns
-returns c =
-    let s = c.args in
-    let if1 = c.if-line-gt131072 in
-    let word = c.first_word in
-    let verb = c.verb-verb in
-    let shape = c.shape_of-shape in
-    let rest = c.after_word in
-    let read = c.read_words-a in
-    rw (directs s.v s.line.now if1.false _ _ _ _ _ _ word.ensures verb.ensures shape.ensures rest.ensures read.ensures.0 read.ensures.1)
-    c.direct.ensures
+pub returns-in-None : goal.returns-in-None
+unfolding commanded
+returns-in-None c = rw (← c.in-None.ensures) c.malformed.ensures

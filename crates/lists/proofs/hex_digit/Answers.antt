@@ -4,7 +4,7 @@ use Rattle.lists.proofs.Digits.{hex_low, hex_high}
 use Rattle.lists.proofs.hex_digit.Goals as goal
 
 pub returns-then-n-lt10 : goal.returns-then-n-lt10
-returns-then-n-lt10 c = hex_low _ (omega arith)
+returns-then-n-lt10 c = omega (arith, hex_low c.args.n (omega arith))
 
-pub returns : goal.returns
-returns c = hex_high _ (omega arith)
+pub returns-else-n-lt10 : goal.returns-else-n-lt10
+returns-else-n-lt10 c = omega (arith, hex_high c.args.n (omega arith))

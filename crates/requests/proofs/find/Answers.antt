@@ -1,19 +1,11 @@
--- `find`: refused as its check says, or done as its effect says. Assumes nothing.
+-- `find`: a name that its check lets through fits, and its directory's key is held. Assumes nothing.
 use mathlib.Core.Path.{sym, ◌∙◌}
 use Rattle.fscrypt.specs.Cipher.{fscrypt}
 use Rattle.fscrypt.proofs.Padding.{name_fits}
-use Rattle.volume.specs.Step.{lent, check}
 use Rattle.volume.proofs.Passed.{find_passed}
-use Rattle.requests.proofs.Settling.{refuses, acts}
 use Rattle.requests.proofs.find.Goals as goal
 
 pub find-requires : goal.find-requires
-find-requires c = let k = find_passed fscrypt _ _ _ (sym c.find_check.ensures ∙ c.in-Fine.is) in record { name_fits = name_fits _ k.name; key_held = k.key }
-
-pub returns-in-Refused : goal.returns-in-Refused
-unfolding check lent
-returns-in-Refused c = refuses fscrypt _ _ _ c.find_check.ensures _ c.in-Refused.is
-
-pub returns-in-Fine : goal.returns-in-Fine
-unfolding check
-returns-in-Fine c = acts fscrypt _ _ _ c.find_check.ensures _ c.in-Fine.is c.find.ensures
+find-requires c =
+    let k = find_passed fscrypt _ _ _ (sym c.find_check.ensures ∙ c.in_ok-find_check.was) in
+    record { name_fits = name_fits _ k.name; key_held = k.key }

@@ -6,8 +6,8 @@ use Rattle.volume.specs.Volume.{inode_slots}
 use Rattle.volume.specs.Lookup.{climb_from}
 use Rattle.lookup.proofs.climb.climb.Given as goal
 
-abbrev pub invariant-loop-at : goal.invariant-loop-at
-invariant-loop-at l = (l.left ≤ inode_slots) × (climb_from l.v l.moved inode_slots l.initial.at ≡ climb_from l.v l.moved l.left l.at)
+abbrev pub invariant-loop-moved : goal.invariant-loop-moved
+invariant-loop-moved l = (l.left ≤ inode_slots) × (climb_from l.v l.moved inode_slots l.initial.at ≡ climb_from l.v l.moved l.left l.at)
 
-abbrev pub decreases-loop-at : goal.decreases-loop-at
-decreases-loop-at l = l.left
+abbrev pub decreases-loop-moved : goal.decreases-loop-moved
+decreases-loop-moved l = l.left

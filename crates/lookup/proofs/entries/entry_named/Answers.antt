@@ -1,20 +1,10 @@
--- `entry_named`: the goals that the search leaves, from the invariant of Invariants.antt. Assumes nothing.
-use native.Mathlib.Omega.{arith}
-use Rattle.volume.specs.Lookup.{entry_named}
-use Rattle.lookup.proofs.Search.{begun, found, passed, ended}
-use Rattle.lookup.proofs.Shape.{shaped}
+-- `entry_named`: the first entry of the directory with the name. Assumes nothing.
+use Rattle.std.proofs.Common.{rules, tests}
+use Rattle.fscrypt.specs.Names.{name_bytes}
+use Rattle.volume.specs.Lookup.{entry_named, is_named}
+use Rattle.lookup.proofs.Search.{numbered}
 use Rattle.lookup.proofs.entries.entry_named.Goals as goal
 
-pub loop-i-init : goal.loop-i-init
-loop-i-init c = begun (shaped c.args.v c.well_formed.0).entries
-
-pub loop-i-preserved : goal.loop-i-preserved
-loop-i-preserved c = passed c.loop-i.invariant (omega arith) _ c.is_named.ensures c.if-is_named.false
-
-pub returns-after-loop-i : goal.returns-after-loop-i
+pub returns : goal.returns
 unfolding entry_named
-returns-after-loop-i c = ended c.loop-i.invariant (omega arith)
-
-pub returns-then-is_named : goal.returns-then-is_named
-unfolding entry_named
-returns-then-is_named c = found c.loop-i.invariant (omega arith) _ c.is_named.ensures c.if-is_named.true
+returns c = numbered (is_named c.args.p (name_bytes c.args.s.now)) c.args.v.now.entries _ (search rules) _ _ _ (cc) c.position.ensures.ran (λ x b q k. search (rules, tests)) (λ i. record { 0 = i }) _ c.map.ensures.cases (λ i n k. search rules)

@@ -1,20 +1,9 @@
--- `first_link`: the goals that the search leaves, from the invariant of Invariants.antt. Assumes nothing.
-use native.Mathlib.Omega.{arith}
-use Rattle.volume.specs.Lookup.{first_link}
-use Rattle.lookup.proofs.Search.{begun, found, passed, ended}
-use borrow.Author.Rules.{rules}
+-- `first_link`: the first entry that holds the inode. Assumes nothing.
+use Rattle.std.proofs.Common.{rules, tests}
+use Rattle.volume.specs.Lookup.{first_link, is_link}
+use Rattle.lookup.proofs.Search.{numbered}
 use Rattle.lookup.proofs.entries.first_link.Goals as goal
 
-pub loop-i-init : goal.loop-i-init
-loop-i-init c = begun (search rules)
-
-pub loop-i-preserved : goal.loop-i-preserved
-loop-i-preserved c = passed c.loop-i.invariant (omega arith) _ c.is_link.ensures c.if-is_link.false
-
-pub returns-after-loop-i : goal.returns-after-loop-i
+pub returns : goal.returns
 unfolding first_link
-returns-after-loop-i c = ended c.loop-i.invariant (omega arith)
-
-pub returns-then-is_link : goal.returns-then-is_link
-unfolding first_link
-returns-then-is_link c = found c.loop-i.invariant (omega arith) _ c.is_link.ensures c.if-is_link.true
+returns c = numbered (is_link c.args.n) c.args.entries.now _ (search rules) _ _ _ (cc) c.position.ensures.ran (λ x b q k. search (rules, tests)) (λ i. record { 0 = i }) _ c.map.ensures.cases (λ i n k. search rules)

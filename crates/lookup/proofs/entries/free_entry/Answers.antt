@@ -1,20 +1,9 @@
--- `free_entry`: the goals that the search leaves, from the invariant of Invariants.antt. Assumes nothing.
-use native.Mathlib.Omega.{arith}
-use Rattle.volume.specs.Lookup.{free_entry}
-use Rattle.lookup.proofs.Search.{begun, found, passed, ended}
-use Rattle.lookup.proofs.Shape.{shaped}
+-- `free_entry`: the first free record. Assumes nothing.
+use Rattle.std.proofs.Common.{rules, tests}
+use Rattle.volume.specs.Lookup.{free_entry, is_vacant}
+use Rattle.lookup.proofs.Search.{numbered}
 use Rattle.lookup.proofs.entries.free_entry.Goals as goal
 
-pub loop-slot-init : goal.loop-slot-init
-loop-slot-init c = begun (shaped c.args.v c.well_formed.0).entries
-
-pub loop-slot-preserved : goal.loop-slot-preserved
-loop-slot-preserved c = passed c.loop-slot.invariant (omega arith) _ c.is_vacant.ensures c.if-is_vacant.false
-
-pub returns-after-loop-slot : goal.returns-after-loop-slot
+pub returns : goal.returns
 unfolding free_entry
-returns-after-loop-slot c = ended c.loop-slot.invariant (omega arith)
-
-pub returns-then-is_vacant : goal.returns-then-is_vacant
-unfolding free_entry
-returns-then-is_vacant c = found c.loop-slot.invariant (omega arith) _ c.is_vacant.ensures c.if-is_vacant.true
+returns c = numbered is_vacant c.args.v.now.entries _ (search rules) _ _ _ (cc) c.position.ensures.ran (λ x b q k. search (rules, tests)) (λ i. record { 0 = i }) _ c.map.ensures.cases (λ i n k. search rules)

@@ -1,20 +1,9 @@
--- `free_inode`: the goals that the search leaves, from the invariant of Invariants.antt. Assumes nothing.
-use native.Mathlib.Omega.{arith}
-use Rattle.volume.specs.Lookup.{free_inode}
-use Rattle.lookup.proofs.Search.{begun, found, passed, ended}
-use Rattle.lookup.proofs.Shape.{shaped}
+-- `free_inode`: the first free record. Assumes nothing.
+use Rattle.std.proofs.Common.{rules, tests}
+use Rattle.volume.specs.Lookup.{free_inode, is_free}
+use Rattle.lookup.proofs.Search.{numbered}
 use Rattle.lookup.proofs.inodes.free_inode.Goals as goal
 
-pub loop-i-init : goal.loop-i-init
-loop-i-init c = begun (shaped c.args.v c.well_formed.0).inodes
-
-pub loop-i-preserved : goal.loop-i-preserved
-loop-i-preserved c = passed c.loop-i.invariant (omega arith) _ c.is_free_inode.ensures c.if-is_free_inode.false
-
-pub returns-after-loop-i : goal.returns-after-loop-i
+pub returns : goal.returns
 unfolding free_inode
-returns-after-loop-i c = ended c.loop-i.invariant (omega arith)
-
-pub returns-then-is_free_inode : goal.returns-then-is_free_inode
-unfolding free_inode
-returns-then-is_free_inode c = found c.loop-i.invariant (omega arith) _ c.is_free_inode.ensures c.if-is_free_inode.true
+returns c = numbered is_free c.args.v.now.inodes _ (search rules) _ _ _ (cc) c.position.ensures.ran (λ x b q k. search (rules, tests)) (λ i. record { 0 = i }) _ c.map.ensures.cases (λ i n k. search rules)

@@ -1,40 +1,41 @@
 -- `number`: the goals that the search leaves, from the invariant of Invariants.antt. Assumes nothing.
-use Prim.Native.Nat.{ℕ, ◌+◌, ◌*◌}
-use Rattle.script.proofs.Picks.{within_low}
-use native.Mathlib.Omega.{arith}
-use mathlib.Core.Path.{sym, ◌∙◌, ap}
-use lib.ListN.{drop}
-use Rattle.script.specs.Numbers.{digits_from}
-use Rattle.script.proofs.Digits.{no_digits, digits_start, digits_bad, digits_large, digits_next, digits_end}
-use borrow.Author.Rules.{rules}
+use Rattle.std.proofs.Common.{◌≡◌, ◌<◌, ◌+◌, ◌-◌, ◌*◌, sym, ◌∙◌, get_or, drop_of_length-le, arith}
+use Rattle.script.specs.Numbers.{most_number, digits_from}
+use Rattle.script.proofs.Digits.{no_digits, digits_start, digits_bad, digits_large, digits_next}
 use Rattle.script.proofs.numbers.number.Goals as goal
 
-pub returns-then-s-eq0 : goal.returns-then-s-eq0
-returns-then-s-eq0 c = no_digits _ c.if-s-eq0.true
+pub returns-then-is_empty : goal.returns-then-is_empty
+returns-then-is_empty c = no_digits _ (sym c.is_empty.ensures ∙ c.if-is_empty.true)
 
-pub loop-i-init : goal.loop-i-init
-loop-i-init c = (search rules, digits_start _ c.if-s-eq0.false)
+pub loop-b-init : goal.loop-b-init
+loop-b-init c = digits_start _ (sym c.is_empty.ensures ∙ c.if-is_empty.false)
 
-pub returns-then-not-is_digit : goal.returns-then-not-is_digit
-returns-then-not-is_digit c = let l = c.loop-i in sym (l.invariant.1 ∙ digits_bad _ l.i l.n (omega arith) (sym c.is_digit.ensures ∙ c.if-not-is_digit.true))
+pub returns-then-not-is_ascii_digit : goal.returns-then-not-is_ascii_digit
+returns-then-not-is_ascii_digit c =
+    let l = c.loop-b in
+    sym (l.invariant ∙ digits_bad c.args.s.now l.b-index l.n c.loop-b-test.true (sym c.is_ascii_digit.ensures.value ∙ c.if-not-is_ascii_digit.true))
 
-pub overflow_sub-b : goal.overflow_sub-b
-overflow_sub-b c = within_low 48 57 _ (sym c.is_digit.ensures ∙ c.if-not-is_digit.false)
+pub returns-in_err-checked_mul : goal.returns-in_err-checked_mul
+returns-in_err-checked_mul c =
+    let l = c.loop-b in
+    let digit = sym c.is_ascii_digit.ensures.value ∙ c.if-not-is_ascii_digit.false in
+    c.from_residual.ensures ∙ sym (l.invariant ∙ digits_large c.args.s.now l.b-index l.n c.loop-b-test.true digit (omega (arith, c.in_err-checked_mul.ensures)))
 
-pub returns-then-d-n : goal.returns-then-d-n
-returns-then-d-n c =
-    let l = c.loop-i in
-    sym (l.invariant.1 ∙ digits_large _ l.i l.n (omega arith) (omega (arith, c.wide-d.ensures)))
+pub returns-in_err-n : goal.returns-in_err-n
+returns-in_err-n c =
+    let l = c.loop-b in
+    let digit = sym c.is_ascii_digit.ensures.value ∙ c.if-not-is_ascii_digit.false in
+    let large : most_number < l.n * 10 + (get_or c.args.s.now l.b-index 0 - 48) = omega (arith, c.in_ok-checked_mul.ensures, c.in_err-n.ensures) in
+    c.from_residual-in_err-n.ensures ∙ sym (l.invariant ∙ digits_large c.args.s.now l.b-index l.n c.loop-b-test.true digit large)
 
-pub loop-i-preserved : goal.loop-i-preserved
-loop-i-preserved c =
-    let s = c.args.s.now in
-    let l = c.loop-i in
-    let digit = sym c.is_digit.ensures ∙ c.if-not-is_digit.false in
-    let wide = c.wide-d.ensures in (
-      omega arith,
-      l.invariant.1 ∙ digits_next _ l.i l.n (omega arith) digit (omega (arith, wide)) ∙ ap (λ (k : ℕ). digits_from (l.n * 10 + k) (drop (l.i + 1) s)) (sym wide),
-    )
+pub loop-b-preserved : goal.loop-b-preserved
+loop-b-preserved c =
+    let l = c.loop-b in
+    let digit = sym c.is_ascii_digit.ensures.value ∙ c.if-not-is_ascii_digit.false in
+    let more : c.in_ok-n.n ≡ l.n * 10 + (get_or c.args.s.now l.b-index 0 - 48) = omega (arith, c.in_ok-checked_mul.ensures, c.in_ok-n.ensures) in
+    let next = digits_next c.args.s.now l.b-index l.n c.loop-b-test.true digit (omega (arith, c.in_ok-checked_mul.ensures, c.in_ok-n.ensures)) in
+    l.invariant ∙ next ∙ rw more
 
 pub returns : goal.returns
-returns c = let l = c.loop-i in sym (l.invariant.1 ∙ digits_end c.args.s.now l.i l.n (omega arith))
+unfolding digits_from
+returns c = let l = c.loop-b in let s = c.args.s.now in sym (l.invariant ∙ rw (drop_of_length-le s (c.loop-b-test.false)))

@@ -1,18 +1,37 @@
 -- `lay_hex`: the goals that the search leaves, from the invariant of Invariants.antt. Assumes nothing.
-use Prim.Native.Nat.{ℕ}
-use native.Mathlib.Omega.{arith}
-use mathlib.Core.Path.{refl, sym, ◌∙◌, ap}
-use lib.ListN.{set, length-set}
-use native.Mathlib.Nat.{zero-add}
-use Rattle.lists.proofs.Copies.{paste_turn, paste_end}
-use Rattle.script.proofs.Hex.{from_hex_length, from_hex_at}
+use Rattle.std.proofs.Common.{◌≡◌, ◌<◌, ◌+◌, ◌∙◌, length, length-set, zero-add, arith}
+use Rattle.std.proofs.lemmas.List.Edits.{paste_more, paste_all}
+use Rattle.std.specs.Iterator.Adapters.{enumerate_count}
+use Rattle.script.specs.Strings.{from_hex}
+use Rattle.script.proofs.Hex.{pair_next, pair_end}
 use Rattle.script.proofs.strings.lay_hex.Goals as goal
 
-pub loop-i-init : goal.loop-i-init
-loop-i-init c = (omega arith, refl, refl, refl, c.requires, from_hex_length _)
+pub bounds-out-i : goal.bounds-out-i
+bounds-out-i c =
+    let l = c.loop-i.invariant in
+    let s = c.in-Some.ensures.steps in
+    let next = pair_next (from_hex c.args.s.now) _ _ _ _ l.left s.0.1.0 (s.0.1.1 ∙ l.pairs) in
+    omega arith
 
 pub loop-i-preserved : goal.loop-i-preserved
-loop-i-preserved c = let l = c.loop-i in (omega arith, refl, ap (λ (k : ℕ). set l.out k c.hex_byte.result) (sym (zero-add l.i)) ∙ paste_turn _ 0 _ _ l.i _ (omega arith) (omega arith) l.invariant.2 (c.hex_byte.ensures ∙ sym (from_hex_at _ l.i (omega arith))), simp length-set l.invariant.3, l.invariant.4, l.invariant.5)
+loop-i-preserved c =
+    let l = c.loop-i.invariant in
+    let s = c.in-Some.ensures.steps in
+    let x = from_hex c.args.s.now in
+    let next = pair_next x _ _ _ _ l.left s.0.1.0 (s.0.1.1 ∙ l.pairs) in
+    let here : 0 + c.in-Some.i < length c.args.out.now = omega arith in
+    let more = paste_more c.args.out.now 0 x c.in-Some.i 0 here (omega arith) in
+    let at = zero-add c.in-Some.i in
+    let high = c.hex_value.ensures.0 in
+    let low = c.hex_value-in-loop-i.ensures.0 in
+    record { pairs = s.0.0 ∙ l.pairs; left = cc; within = omega arith; laid = cc; whole = simp length-set l.whole; room = l.room }
 
 pub returns : goal.returns
-returns c = let l = c.loop-i in paste_end _ 0 _ _ l.i l.invariant.2 (omega arith) ∙ rw zero-add
+returns c =
+    let l = c.loop-i.invariant in
+    let s = c.in-None.ensures.steps in
+    let x = from_hex c.args.s.now in
+    let end = pair_end x _ _ l.left (omega (arith, l.pairs, s.0.1.0)) in
+    let n = enumerate_count c.loop-i.i-iterator in
+    let all : n ≡ length x = omega arith in
+    l.laid ∙ paste_all c.args.out.now 0 x n all ∙ rw (zero-add, all)

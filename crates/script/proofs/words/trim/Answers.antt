@@ -1,19 +1,15 @@
--- `trim`: a part to the end. Assumes nothing.
-use Prim.Native.Nat.{ℕ}
-use native.Mathlib.Omega.{arith}
-use mathlib.Core.Path.{◌∙◌, ap}
-use lib.ListN.{drop}
+-- `trim`: what is left from the first byte that is no blank. Assumes nothing.
+use Rattle.std.proofs.Common.{rules, tests, ◌∙◌, ap, ℕ, drop}
+use Rattle.std.proofs.lemmas.Iterator.{YieldsList-from_slice}
+use Rattle.std.proofs.lemmas.Iterator.Search.{position_from_yields_List}
 use borrow.Author.Rules.{part_to_end}
-use Rattle.lists.proofs.Tables.{first_at_le}
 use Rattle.script.specs.Words.{is_not_blank, trimmed}
+use Rattle.script.proofs.Finding.{first_position}
 use Rattle.script.proofs.words.trim.Goals as goal
-
-pub slice_bounds-result-count : goal.slice_bounds-result-count
-slice_bounds-result-count c = omega (arith, c.first_not_blank-i.ensures, first_at_le is_not_blank c.args.s.now)
-
-pub slice_bounds-result-start : goal.slice_bounds-result-start
-slice_bounds-result-start c = omega (arith, c.first_not_blank-i.ensures, first_at_le is_not_blank c.args.s.now)
 
 pub returns : goal.returns
 unfolding trimmed
-returns c = let s = c.args.s.now in part_to_end s _ ∙ ap (λ (k : ℕ). drop k s) c.first_not_blank-i.ensures
+returns c =
+    let s = c.args.s.now in
+    let found = position_from_yields_List is_not_blank _ _ c.position.result c.position.ensures.ran (YieldsList-from_slice s cc) (λ x b q k. search (rules, tests)) in
+    part_to_end s _ ∙ ap (λ (k : ℕ). drop k s) (first_position _ s _ _ found c.unwrap_or-start.ensures)

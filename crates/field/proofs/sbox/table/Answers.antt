@@ -1,8 +1,0 @@
--- `sbox::table` meets its contract: the search closes what is left. Assumes nothing.
-use Rattle.field.specs.SBox.{s_box_table}
-use borrow.Author.Rules.{rules}
-use Rattle.field.proofs.sbox.table.Goals as goal
-
-pub returns : goal.returns
-unfolding s_box_table
-returns c = search rules

@@ -1,7 +1,0 @@
--- `descriptor_at`: what fills all of the array is what it holds. Assumes nothing.
-use Rattle.lists.proofs.Copies.{copied_whole}
-use borrow.Author.Rules.{rules}
-use Rattle.policy.proofs.fields.descriptor_at.Goals as goal
-
-pub returns : goal.returns
-returns c = copied_whole _ _ _ c.copy_to.ensures (search rules)
