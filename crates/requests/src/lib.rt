@@ -1,4 +1,4 @@
-// The thirteen requests on a volume: check, then act. No function asks anything of its caller: any volume value, any numbers, any slices. Each contract
+// The thirteen requests on a volume: check, then act. No public function asks anything of its caller: any volume value, any numbers, any slices. Each contract
 // equates the whole outcome, refusals included, with `step fscrypt` of volume/specs/Step.antt: the answer, every byte of the volume and of the lent buffer.
 #![tactic(auto, using(crate::proofs::Passing::passed), unfolding(volume::specs::Step::step, volume::specs::Step::settle, volume::specs::Step::check, volume::specs::Step::lent))]
 
