@@ -4,7 +4,7 @@ use Prim.Native.Nat.{ℕ, zero, suc, ◌+◌, ◌-◌, ◌*◌, ◌/◌, ◌%◌
 use native.Mathlib.Numerals.{add-one}
 use native.Mathlib.Omega.{arith}
 use mathlib.Core.Path.{◌≡◌, refl, ap}
-use mathlib.Core.Bool.{Bool, true, false, cond, true≢false}
+use mathlib.Core.Bool.{Bool, true, false, cond, ◌&&◌, true≢false}
 use mathlib.Core.List.{[], ◌∷◌, ◌++◌}
 use lib.ListN.{length, get_or, drop, length-append}
 use lib.Seq.{drop-cons}
@@ -25,19 +25,22 @@ unfolding number_of
 digits_start [] h = absurd (true≢false h)
 digits_start (x ∷ s) h = refl
 
+and_false : (t : Bool) → (t && false) ≡ false
+and_false true = refl
+and_false false = refl
+
 module _ (s : Bytes) (i n : ℕ) (h : i < length s) where
   pub digits_bad : is_digit (get_or s i 0) ≡ false → digits_from n (drop i s) ≡ None
   unfolding digits_from
   digits_bad e = rw (drop-cons s i 0 h, e)
 
-  module _ (e : is_digit (get_or s i 0) ≡ true) where
-    pub digits_large : most_number < n * 10 + (get_or s i 0 - 48) → digits_from n (drop i s) ≡ None
-    unfolding digits_from
-    digits_large f = rw (drop-cons s i 0 h, e, lt-leb _ _ f)
+  pub digits_large : most_number < n * 10 + (get_or s i 0 - 48) → digits_from n (drop i s) ≡ None
+  unfolding digits_from
+  digits_large e = rw (drop-cons s i 0 h, lt-leb _ _ e, and_false (is_digit (get_or s i 0)))
 
-    pub digits_next : n * 10 + (get_or s i 0 - 48) ≤ most_number → digits_from n (drop i s) ≡ digits_from (n * 10 + (get_or s i 0 - 48)) (drop (i + 1) s)
-    unfolding digits_from
-    digits_next f = rw (drop-cons s i 0 h, e, le-leb _ _ f, add-one i)
+  pub digits_next : is_digit (get_or s i 0) ≡ true → n * 10 + (get_or s i 0 - 48) ≤ most_number → digits_from n (drop i s) ≡ digits_from (n * 10 + (get_or s i 0 - 48)) (drop (i + 1) s)
+  unfolding digits_from
+  digits_next e f = rw (drop-cons s i 0 h, e, le-leb _ _ f, add-one i)
 
 pub last_none : (k n : ℕ) → k ≡ 0 → last_digits k n ≡ []
 unfolding last_digits

@@ -1,12 +1,13 @@
 -- Words read one after the other: the next word of a line, what the words leave in a buffer, what each word keeps, and how many bytes there are.
 -- Assumes nothing.
-use Rattle.std.proofs.Common.{◌≡◌, refl, ap, subst, ◌∙◌, ℕ, suc, ◌+◌, ◌≤◌, ◌<◌, Bool, true, false, cond, List, [], ◌∷◌, length, get_or, drop, drop-cons, add-one, Option, Some, None, is_some, option_map, option_and_then, sym, arith}
+use Rattle.std.proofs.Common.{◌≡◌, refl, ap, subst, ◌∙◌, ℕ, suc, ◌+◌, ◌≤◌, ◌<◌, Bool, true, false, cond, List, [], ◌∷◌, length, get_or, drop, drop-cons, add-one, Option, Some, None, is_some, option_map, option_and_then, unwrap_or, sym, arith}
+use Rattle.std.specs.Option.{option_and}
 use Rattle.lists.specs.Bytes.{Bytes, same, is_empty, zeros}
 use Rattle.script.specs.Text.{text}
 use Rattle.script.specs.Words.{first_word, after_word}
 use Rattle.script.specs.Numbers.{number_of}
 use Rattle.script.specs.Strings.{is_byte_string, bytes_of}
-use Rattle.script.specs.Commands.{with_first, with_second, with_len, with_descriptor, with_nonce, is_bytes, bytes_in, no_args, taken, taken_text, Reading, reading, next, read_on, read_words, laid_text, is_taken, left_in}
+use Rattle.script.specs.Commands.{with_first, with_second, with_len, with_descriptor, with_nonce, is_bytes, bytes_in, no_args, taken, taken_text, Reading, reading, read_in, next, read_on, read_words, laid_text, is_taken, left_in}
 use Rattle.script.specs.declared.Sort.{Sort}
 use Rattle.script.specs.declared.Sort.TheVariants.{First, Second, Text, Descriptor, Nonce, Size}
 use Rattle.script.specs.declared.Args.{Args}
@@ -21,14 +22,34 @@ read_next p q shape i d line w rest h e f g =
     let more : Some q ≡ next p (get_or shape i d) (first_word line) = g ∙ ap (next p (get_or shape i d)) e in
     here ∙ rw (← more, ← f, add-one)
 
+-- a word that is not what it should be
+pub read_stop : (p : Reading) (shape : List Sort) (i : ℕ) (d : Sort) (line w : Bytes) → i < length shape → w ≡ first_word line
+    → None ≡ next p (get_or shape i d) w → read_on p (drop i shape) line ≡ None
+read_stop p shape i d line w h e g =
+    let here : read_on p (drop i shape) line ≡ option_and_then (λ (r : Reading). read_on r (drop (suc i) shape) (after_word line)) (next p (get_or shape i d) (first_word line)) = rw (drop-cons shape i d h) in
+    let no_more : None ≡ next p (get_or shape i d) (first_word line) = g ∙ ap (next p (get_or shape i d)) e in
+    here ∙ rw (← no_more)
+
+-- what has been read so far, or none, read on
+abbrev pub onward : Bytes → List Sort → Bytes → Option Args → Option Reading
+onward buffer shape line o = option_and_then (λ (a : Args). read_on (read_in buffer a) shape line) o
+
+-- a word more, whether those before it are what they should be or not
+pub onward_next : (o more : Option Args) (shape : List Sort) (i : ℕ) (d : Sort) (line w rest buffer after : Bytes) → i < length shape → w ≡ first_word line → rest ≡ after_word line
+    → option_map (read_in after) more ≡ next (read_in buffer (unwrap_or o no_args)) (get_or shape i d) w
+    → onward after (drop (i + 1) shape) rest (option_and o more) ≡ onward buffer (drop i shape) line o
+onward_next None more shape i d line w rest buffer after h e f g = refl
+onward_next (Some a) None shape i d line w rest buffer after h e f g = sym (read_stop (read_in buffer a) shape i d line w h e g)
+onward_next (Some a) (Some b) shape i d line w rest buffer after h e f g = sym (read_next (read_in buffer a) (read_in after b) shape i d line w rest h e f g)
+
 -- ---- what the words leave in a buffer
 
 is_mapped : {A B : Type 0} (f : A → B) (o : Option A) → is_some (option_map f o) ≡ is_some o
 is_mapped f None = refl
 is_mapped f (Some x) = refl
 
--- whether a word is taken, whatever has been read before it
-is_taken_after : (a : Args) (s : Sort) (w : Bytes) → is_some (taken a s w) ≡ is_taken s w
+-- a law for a reader of `is_taken`: whether a word is taken, whatever has been read before it
+pub is_taken_after : (a : Args) (s : Sort) (w : Bytes) → is_some (taken a s w) ≡ is_taken s w
 unfolding taken
 is_taken_after a First w = is_mapped _ (number_of w) ∙ sym (is_mapped _ (number_of w))
 is_taken_after a Second w = is_mapped _ (number_of w) ∙ sym (is_mapped _ (number_of w))
@@ -49,24 +70,14 @@ is_taken_after a Size w = by_case (is_empty w)
     by_case true = refl
     by_case false = is_mapped _ (number_of w) ∙ sym (is_mapped _ (number_of w))
 
--- the word at position i, which comes to r and leaves the buffer `after`
-module _ (p : Reading) (shape : List Sort) (i : ℕ) (d : Sort) (line w buffer after : Bytes) (h : i < length shape) (e : w ≡ first_word line)
-    (k : after ≡ cond (is_taken (get_or shape i d) w) (laid_text buffer (get_or shape i d) w) buffer) where
-  is_taken_as : (r : Option Reading) → r ≡ next p (get_or shape i d) w → is_some r ≡ is_taken (get_or shape i d) w
-  is_taken_as r g = ap is_some g ∙ is_mapped _ (taken p.args (get_or shape i d) w) ∙ is_taken_after p.args (get_or shape i d) w
-
-  -- a word more
-  pub left_next : (q : Reading) (rest : Bytes) → rest ≡ after_word line → Some q ≡ next p (get_or shape i d) w
-      → left_in after (drop (i + 1) shape) rest ≡ left_in buffer (drop i shape) line
-  left_next q rest f g =
-      let t : is_taken (get_or shape i d) w ≡ true = sym (is_taken_as (Some q) g) in
-      rw (drop-cons shape i d h, ← e, t, k, t, f, add-one) refl
-
-  -- a word that is not what it should be, and none after it
-  pub left_stop : None ≡ next p (get_or shape i d) w → after ≡ left_in buffer (drop i shape) line
-  left_stop g =
-      let t : is_taken (get_or shape i d) w ≡ false = sym (is_taken_as None g) in
-      rw (drop-cons shape i d h, ← e, t, k, t) refl
+-- the word at position i, which leaves the buffer `after`
+pub left_next : (shape : List Sort) (i : ℕ) (d : Sort) (line w rest buffer after : Bytes) → i < length shape → w ≡ first_word line → rest ≡ after_word line
+    → after ≡ cond (is_taken (get_or shape i d) w) (laid_text buffer (get_or shape i d) w) buffer
+    → left_in after (drop (i + 1) shape) rest ≡ left_in buffer (drop i shape) line
+left_next shape i d line w rest buffer after h e f k =
+    let laid : Bytes → Bytes = λ x. cond (is_taken (get_or shape i d) x) (laid_text buffer (get_or shape i d) x) buffer in
+    let here : left_in buffer (drop i shape) line ≡ left_in (laid (first_word line)) (drop (suc i) shape) (after_word line) = rw (drop-cons shape i d h) in
+    rw (k, e, f, add-one i) (sym here)
 
 -- ---- what a word comes to
 

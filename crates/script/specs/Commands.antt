@@ -133,7 +133,7 @@ laid_text buffer Size w = buffer
 abbrev pub is_taken : Sort → Bytes → Bool
 is_taken s w = is_some (taken no_args s w)
 
--- after the words of a line: those before the first that is not what it should be have been laid, and no others
+-- after the words of a line: each that is what it should be has been laid, also after one that is not, and no others
 abbrev pub left_in : Bytes → List Sort → Bytes → Bytes
 left_in buffer [] line = buffer
-left_in buffer (s ∷ shape) line = let w = first_word line in cond (is_taken s w) (left_in (laid_text buffer s w) shape (after_word line)) buffer
+left_in buffer (s ∷ shape) line = let w = first_word line in left_in (cond (is_taken s w) (laid_text buffer s w) buffer) shape (after_word line)

@@ -67,19 +67,24 @@ fn take_word(a: Args, sort: Sort, w: &[u8], payload: &mut [u8]) -> Option<Args>
 }
 
 // All words after the request's, each of its sort, and none more. The bytes of KEY, POLICY, NAME or BLOCK come to stand at the start of the payload,
-// also where a word after them is wrong. Words after the first wrong one are not read.
+// also where another word is wrong: every word is read.
 #[tactic(auto, unfolding(crate::specs::Commands::read_words, lists::specs::Bytes::zeros), using(crate::proofs::Lines::lengths))]
 pub fn read_words(shape: &[Sort], line: &[u8], payload: &mut [u8]) -> Option<Args>
     requires { length line.now ≤ length payload.old }
     ensures read { option_map (read_in payload.new) result ≡ read_words shape.now line.now }
     ensures left { payload.new ≡ left_in payload.old shape.now line.now }
 {
-    let mut a = NO_ARGS;
+    let mut args = Some(NO_ARGS);
     let mut left = line;
     for &sort in shape {
         let (word, rest) = words::split(left);
-        a = take_word(a, sort, word, payload)?;
+        let more = take_word(args.unwrap_or(NO_ARGS), sort, word, payload);
+        args = args.and(more);
         left = rest;
     }
-    words::first_word(left).is_empty().then_some(a)
+    if words::first_word(left).is_empty() {
+        args
+    } else {
+        None
+    }
 }

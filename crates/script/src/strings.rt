@@ -63,8 +63,7 @@ pub fn lay(s: &[u8], out: &mut [u8])
     ensures { out.new ≡ laid_over out.old (bytes_of s.now) }
 {
     if is_quoted(s) {
-        let bytes = &s[1..];
-        out[..bytes.len()].copy_from_slice(bytes);
+        lists::copy_to(out, 0, &s[1..]);
     } else {
         lay_hex(s, out);
     }

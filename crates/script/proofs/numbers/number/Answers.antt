@@ -18,15 +18,13 @@ returns-then-not-is_ascii_digit c =
 pub returns-in_err-checked_mul : goal.returns-in_err-checked_mul
 returns-in_err-checked_mul c =
     let l = c.loop-b in
-    let digit = sym c.is_ascii_digit.ensures.value ∙ c.if-not-is_ascii_digit.false in
-    c.from_residual.ensures ∙ sym (l.invariant ∙ digits_large c.args.s.now l.b-index l.n c.loop-b-test.true digit (omega (arith, c.in_err-checked_mul.ensures)))
+    c.from_residual.ensures ∙ sym (l.invariant ∙ digits_large c.args.s.now l.b-index l.n c.loop-b-test.true (omega (arith, c.in_err-checked_mul.ensures)))
 
 pub returns-in_err-n : goal.returns-in_err-n
 returns-in_err-n c =
     let l = c.loop-b in
-    let digit = sym c.is_ascii_digit.ensures.value ∙ c.if-not-is_ascii_digit.false in
     let large : most_number < l.n * 10 + (get_or c.args.s.now l.b-index 0 - 48) = omega (arith, c.in_ok-checked_mul.ensures, c.in_err-n.ensures) in
-    c.from_residual-in_err-n.ensures ∙ sym (l.invariant ∙ digits_large c.args.s.now l.b-index l.n c.loop-b-test.true digit large)
+    c.from_residual-in_err-n.ensures ∙ sym (l.invariant ∙ digits_large c.args.s.now l.b-index l.n c.loop-b-test.true large)
 
 pub loop-b-preserved : goal.loop-b-preserved
 loop-b-preserved c =
