@@ -5,5 +5,5 @@ pub mod ScheduleBytes
 pub mod Appended
 pub mod MixColumns
 mod Rounds
-mod PutAt
-mod Schedule
+pub mod PutAt
+pub mod Schedule
