@@ -1,5 +1,6 @@
 // The words of a request after its name, taken one after the other, and the byte strings that they are.
 ghost use Rattle.std.specs.Prelude.{◌≤◌, length, IfOk};
+ghost use Rattle.script.specs.Strings.{bytes_of};
 
 use crate::answers::Failure;
 use script::{numbers, strings, words};
@@ -12,6 +13,21 @@ pub type Room = [u8; MOST_BYTES];
 
 pub fn room() -> Room {
     [0; MOST_BYTES]
+}
+
+// A word that is a byte string which a room holds. Rooms are taken once all words of a line have been looked at: a line that is no request costs none.
+#[derive(Clone, Copy)]
+pub struct ByteString<'a> {
+    word: &'a [u8],
+    ghost fits: { length (bytes_of word.now) ≤ 4200 },
+}
+
+impl ByteString<'_> {
+    // The bytes that the word stands for, laid over the start of a room.
+    pub fn lay<'b>(&self, room: &'b mut Room) -> &'b mut [u8] {
+        strings::lay(self.word, room);
+        &mut room[..strings::byte_count(self.word)]
+    }
 }
 
 // The words that are left.
@@ -43,6 +59,16 @@ impl<'a> Words<'a> {
 
     pub fn number(&mut self) -> Result<u64, Failure> {
         numbers::number(self.word()).ok_or(Failure::Malformed)
+    }
+
+    // The next word, a byte string.
+    pub fn byte_string(&mut self) -> Result<ByteString<'a>, Failure> {
+        let word = self.word();
+        if strings::is_byte_string(word) && strings::byte_count(word) <= MOST_BYTES {
+            Ok(ByteString { word })
+        } else {
+            Err(Failure::Malformed)
+        }
     }
 
     // The bytes that the next word stands for, laid over the start of a room that holds them.

@@ -9,9 +9,10 @@ use std::io::Write;
 
 // key-expansion KEY. KeyExpansion is defined for keys of 16 to 32 bytes in whole words alone.
 pub fn on_key(to: &mut impl Write, mut words: Words) -> Result<(), Failure> {
-    let mut key = room();
-    let key = words.bytes(&mut key)?;
+    let key = words.byte_string()?;
     words.end()?;
+    let mut bytes = room();
+    let key = key.lay(&mut bytes);
     if !matches!(key.len(), 16 | 20 | 24 | 28 | 32) {
         return Err(Failure::Malformed);
     }
@@ -27,11 +28,11 @@ pub fn on_text<C: Fn(&[u8], &mut [u8]) -> Status>(
 ) -> Result<(), Failure>
     requires { C.IsAlwaysCallable call }
 {
-    let mut key = room();
-    let key = words.bytes(&mut key)?;
-    let mut text = room();
-    let text = words.bytes(&mut text)?;
+    let key = words.byte_string()?;
+    let text = words.byte_string()?;
     words.end()?;
+    let (mut of_key, mut of_text) = (room(), room());
+    let (key, text) = (key.lay(&mut of_key), text.lay(&mut of_text));
     let status = call(key, text);
     answers::after_call(to, status.errno, text);
     Ok(())
@@ -45,12 +46,12 @@ pub fn on_block<C: Fn(&[u8], u64, &mut [u8]) -> Status>(
 ) -> Result<(), Failure>
     requires { C.IsAlwaysCallable call }
 {
-    let mut key = room();
-    let key = words.bytes(&mut key)?;
+    let key = words.byte_string()?;
     let number = words.number()?;
-    let mut block = room();
-    let block = words.bytes(&mut block)?;
+    let block = words.byte_string()?;
     words.end()?;
+    let (mut of_key, mut of_block) = (room(), room());
+    let (key, block) = (key.lay(&mut of_key), block.lay(&mut of_block));
     let status = call(key, number, block);
     answers::after_call(to, status.errno, block);
     Ok(())

@@ -3,7 +3,7 @@ ghost use Rattle.std.specs.Prelude.{◌≤◌, length};
 
 use crate::answers;
 use crate::answers::Failure;
-use crate::arguments::{Words, room};
+use crate::arguments::{ByteString, Words, room};
 use fscrypt::{Name, encode, fname, keysetup};
 use ids::EntryNumber;
 use policy::Context;
@@ -11,10 +11,10 @@ use std::io::Write;
 
 // check-name NAME
 pub fn on_check(to: &mut impl Write, mut words: Words) -> Result<(), Failure> {
-    let mut name = room();
-    let name = words.bytes(&mut name)?;
+    let name = words.byte_string()?;
     words.end()?;
-    fname::check_name(name)?;
+    let mut bytes = room();
+    fname::check_name(name.lay(&mut bytes))?;
     answers::passed(to);
     Ok(())
 }
@@ -30,15 +30,23 @@ fn write_name(to: &mut impl Write, name: Name) {
     answers::given(to, name.as_bytes());
 }
 
-// store-name CONTEXT MASTER NAME
-pub fn on_store(to: &mut impl Write, mut words: Words) -> Result<(), Failure> {
-    let mut context = room();
-    let context = words.bytes(&mut context)?;
-    let master = words.array::<64>()?;
-    let mut name = room();
-    let name = words.bytes(&mut name)?;
-    words.end()?;
-    let context = policy::read_context(context)?;
+// The context in these bytes. Not inlined: its callers would make the room before they look at the words.
+#[inline(never)]
+fn context_in(context: ByteString) -> Result<Context, Failure> {
+    let mut bytes = room();
+    Ok(policy::read_context(context.lay(&mut bytes))?)
+}
+
+// A plain name, as the directory with this context stores it. Not inlined, as above.
+#[inline(never)]
+fn store(
+    to: &mut impl Write,
+    context: Context,
+    master: [u8; 64],
+    name: ByteString,
+) -> Result<(), Failure> {
+    let mut bytes = room();
+    let name = name.lay(&mut bytes);
     fname::check_name(name)?;
     let key = key_of(context, master);
     let p = context.policy;
@@ -47,6 +55,15 @@ pub fn on_store(to: &mut impl Write, mut words: Words) -> Result<(), Failure> {
         fname::encrypt_name(&key[..policy::name_key_size(p)], p.flags, name),
     );
     Ok(())
+}
+
+// store-name CONTEXT MASTER NAME
+pub fn on_store(to: &mut impl Write, mut words: Words) -> Result<(), Failure> {
+    let context = words.byte_string()?;
+    let master = words.array::<64>()?;
+    let name = words.byte_string()?;
+    words.end()?;
+    store(to, context_in(context)?, master, name)
 }
 
 // A stored name: 1 to 255 bytes.
@@ -62,12 +79,11 @@ fn stored_name(words: &mut Words) -> Result<Name, Failure> {
 
 // read-name CONTEXT MASTER STORED
 pub fn on_read(to: &mut impl Write, mut words: Words) -> Result<(), Failure> {
-    let mut context = room();
-    let context = words.bytes(&mut context)?;
+    let context = words.byte_string()?;
     let master = words.array::<64>()?;
     let stored = stored_name(&mut words)?;
     words.end()?;
-    let context = policy::read_context(context)?;
+    let context = context_in(context)?;
     let key = key_of(context, master);
     let p = context.policy;
     write_name(
