@@ -55,7 +55,8 @@ impl Name {
     pub fn as_bytes(&self) -> &[u8]
         ensures { result.now ≡ name_bytes self.now }
     {
-        &self.bytes[..usize::from(self.len)]
+        let len = usize::from(self.len);
+        &self.bytes[..len]
     }
 }
 
