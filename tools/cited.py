@@ -3,7 +3,7 @@
 
 Read are links, and spans in backquotes: `FILE: NAME, NAME` (or `FILE`: `NAME`), where FILE may lack its first directories; `CRATE::MODULE::NAME`; a path; an edit as
 `CRATE/EDIT`; a word, which has to occur somewhere. Of a path NAME and the like stand for anything, and what is built, in out/, need not be there. The notes of
-docs/changes, docs/PORT.md and docs/DESIGN-PASS.md speak of names of their day, and are not read. It needs Debian's python3, 3.11.
+docs/changes, docs/PORT.md, docs/DESIGN-PASS.md and docs/LOOK-BACK.md speak of names of their day, and are not read. It needs Debian's python3, 3.11.
 """
 import re
 import sys
@@ -11,7 +11,7 @@ from functools import cache
 from pathlib import Path
 
 ROOT = Path(__file__).resolve().parent.parent
-PAGES = [path for path in (ROOT / "README.md", *ROOT.glob("docs/*.md"), *ROOT.glob("docs/*/README.md")) if path.name not in ("PORT.md", "DESIGN-PASS.md")]
+PAGES = [path for path in (ROOT / "README.md", *ROOT.glob("docs/*.md"), *ROOT.glob("docs/*/README.md")) if path.name not in ("PORT.md", "DESIGN-PASS.md", "LOOK-BACK.md")]
 TREE = [path for top in ("*.*", ".ci/*", "bench/*", "crates/**/*", "docs/**/*", "tools/**/*") for path in ROOT.glob(top)
         if not {"__pycache__", "out"} & set(path.relative_to(ROOT).parts)]
 TEXTS = [path for path in TREE if path.is_file() and path.suffix != ".md"]
